@@ -1,0 +1,10 @@
+pub mod Caseless
+pub mod Causes
+pub mod Copies
+pub mod Escapes
+pub mod Memory
+pub mod Names
+pub mod Numbered
+pub mod Paths
+pub mod Settling
+pub mod Streams

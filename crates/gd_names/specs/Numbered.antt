@@ -1,0 +1,30 @@
+-- Names made from another name by a number before its extension. The extension of a file begins at its last dot
+-- that is not its first byte; a folder has none.
+use Rattle.std.specs.Prelude.{ℕ, ◌-◌, Bool, if◌then◌else◌, List, [], ◌∷◌, ◌++◌, length, take, codes, nat_eq, Option, Some, None, unwrap_or}
+use Rattle.std.specs.Fmt.{decimal}
+
+-- what follows the last dot, with the dot, if there is one; `found` is that of the later bytes
+abbrev pub dot_before : ℕ → List ℕ → Option (List ℕ) → Option (List ℕ)
+dot_before b bytes None = if nat_eq b 46 then Some (b ∷ bytes) else None
+dot_before b bytes (Some found) = Some found
+
+abbrev pub from_last_dot : List ℕ → Option (List ℕ)
+from_last_dot [] = None
+from_last_dot (b ∷ bytes) = dot_before b bytes (from_last_dot bytes)
+
+-- the extension of a file
+abbrev pub file_extension : List ℕ → List ℕ
+file_extension [] = []
+file_extension (b ∷ bytes) = unwrap_or (from_last_dot bytes) []
+
+-- the extension of an item
+abbrev pub extension : List ℕ → Bool → List ℕ
+extension name folder = if folder then [] else file_extension name
+
+-- what stands before the extension
+abbrev pub stem : List ℕ → Bool → List ℕ
+stem name folder = take (length name - length (extension name folder)) name
+
+-- the name with a blank and a number before its extension
+abbrev pub numbered : List ℕ → Bool → ℕ → List ℕ
+numbered name folder n = stem name folder ++ codes " " ++ decimal n ++ extension name folder

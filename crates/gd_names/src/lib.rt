@@ -1,0 +1,24 @@
+//! Texts, names and paths of a drive, and the two ends of a stream of bytes.
+#![tactic(auto)]
+
+mod bytes;
+mod conflict;
+mod exact;
+mod list;
+mod memory;
+mod name;
+mod path;
+mod sink;
+mod source;
+mod text;
+
+pub use bytes::Bytes;
+pub use conflict::{Conflict, Settle, Sibling};
+pub use exact::Exact;
+pub use list::List;
+pub use memory::NoMemory;
+pub use name::{NameFault, same_caseless};
+pub use path::Path;
+pub use sink::{MemorySink, Sink, SinkFault};
+pub use source::{MemorySource, Source, SourceFault};
+pub use text::{Text, TextFault};
