@@ -1,0 +1,80 @@
+-- What a drive holds is read off the list of its effects. An effect is one made folder, one put, one move or one
+-- removal; each raises the drive's number by one, and made items get the numbers 2, 3 and so on.
+use Rattle.std.specs.Prelude.{ℕ, ◌+◌, Bool, not, cond, List, [], ◌∷◌, ◌++◌, length, map, filter, nat_eq, Option, Some, None}
+use Rattle.gd_item.specs.declared.live.LiveItem.{LiveItem}
+
+-- what one accepted step did
+pub data Effect : Type 0 where
+  MadeFolder : (parent : ℕ) (name : List ℕ) → Effect
+  PutNew : (parent : ℕ) (name : List ℕ) (bytes : List ℕ) → Effect
+  PutOver : (number : ℕ) (bytes : List ℕ) → Effect
+  Moved : (number parent : ℕ) (name : List ℕ) → Effect
+  Removed : (number : ℕ) → Effect
+
+-- an item that was removed: its number, the folder in which it stood, and the drive's number after its removal
+pub record Tombstone : Type 0 where
+  pub number : ℕ
+  pub parent : ℕ
+  pub change : ℕ
+
+-- what a drive holds: its change number, the number of the next item, the items that live in order of number, the
+-- removed ones in order of removal, and how many bytes all puts brought
+pub record Inventory : Type 0 where
+  pub number : ℕ
+  pub next : ℕ
+  pub items : List LiveItem
+  pub removed : List Tombstone
+  pub kept : ℕ
+
+-- a new drive has its root alone
+abbrev pub new_drive : Inventory
+new_drive = record { number = 1; next = 2; items = []; removed = []; kept = 0 }
+
+-- an item that was just made at this change number
+abbrev pub made_folder : ℕ → ℕ → ℕ → List ℕ → LiveItem
+made_folder change number parent name =
+    record { number = number; parent = parent; name = name; bytes = None; change = change; content = 0 }
+
+abbrev pub made_file : ℕ → ℕ → ℕ → List ℕ → List ℕ → LiveItem
+made_file change number parent name bytes =
+    record { number = number; parent = parent; name = name; bytes = Some bytes; change = change; content = change }
+
+-- the item with new bytes, if it has the number
+abbrev pub overwritten : ℕ → ℕ → List ℕ → LiveItem → LiveItem
+overwritten change number bytes item =
+    cond (nat_eq item.number number) (record item { bytes = Some bytes; change = change; content = change }) item
+
+-- the item at its new place, if it has the number
+abbrev pub moved : ℕ → ℕ → ℕ → List ℕ → LiveItem → LiveItem
+moved change number parent name item =
+    cond (nat_eq item.number number) (record item { parent = parent; name = name; change = change }) item
+
+-- the tombstones of the items that have the number
+abbrev pub tombstones : ℕ → ℕ → List LiveItem → List Tombstone
+tombstones change number [] = []
+tombstones change number (item ∷ items) =
+    cond (nat_eq item.number number)
+    (record { number = number; parent = item.parent; change = change } ∷ tombstones change number items)
+    (tombstones change number items)
+
+-- what the drive holds after one more effect
+abbrev pub after : Inventory → Effect → Inventory
+after held (MadeFolder parent name) =
+    record held { number = held.number + 1; next = held.next + 1; items = held.items ++ made_folder (held.number + 1) held.next parent name ∷ [] }
+after held (PutNew parent name bytes) =
+    record held { number = held.number + 1; next = held.next + 1; items = held.items ++ made_file (held.number + 1) held.next parent name bytes ∷ []; kept = held.kept + length bytes }
+after held (PutOver number bytes) =
+    record held { number = held.number + 1; items = map (overwritten (held.number + 1) number bytes) held.items; kept = held.kept + length bytes }
+after held (Moved number parent name) =
+    record held { number = held.number + 1; items = map (moved (held.number + 1) number parent name) held.items }
+after held (Removed number) =
+    record held { number = held.number + 1; items = filter (λ item. not (nat_eq item.number number)) held.items; removed = held.removed ++ tombstones (held.number + 1) number held.items }
+
+-- what the drive holds after these effects
+abbrev pub after_all : Inventory → List Effect → Inventory
+after_all held [] = held
+after_all held (effect ∷ effects) = after_all (after held effect) effects
+
+-- what a drive holds whose effects are these
+abbrev pub inventory : List Effect → Inventory
+inventory effects = after_all new_drive effects

@@ -1,0 +1,9 @@
+pub mod Faults
+pub mod Ids
+pub mod Inventory
+pub mod Nodes
+pub mod Records
+pub mod Refusals
+pub mod Requests
+pub mod Tags
+pub mod Trees

@@ -1,0 +1,20 @@
+//! Items, requests and replies of a drive, and the definitions that say what a drive is.
+#![tactic(auto)]
+
+mod condition;
+mod digest;
+mod fault;
+mod id;
+mod item;
+mod live;
+mod reply;
+mod request;
+
+pub use condition::Condition;
+pub use digest::{Digest, digest_of};
+pub use fault::{ErrorCode, StoreFault};
+pub use id::ItemId;
+pub use item::{Item, Kind, Tag};
+pub use live::{LiveItem, Place};
+pub use reply::{Page, PageLink, Reply, Resync};
+pub use request::{Address, Request, RequestKind};

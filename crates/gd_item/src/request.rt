@@ -1,0 +1,122 @@
+ghost use Rattle.std.specs.Prelude.{◌≡◌};
+ghost use Rattle.gd_item.specs.Requests.{kind_of};
+
+use crate::condition::Condition;
+use crate::id::ItemId;
+use gd_names::{Bytes, Conflict, Path, Text};
+
+/// How a request names an item: by id, by path from the root, or by parent and name.
+#[derive(Debug, PartialEq, Eq, Drop)]
+pub enum Address {
+    Id(ItemId),
+    ByPath(Path),
+    Child(ItemId, Text),
+}
+
+/// What a client asks of a drive: the driveItem API of Microsoft Graph v1.0, in the calls that this drive answers.
+#[derive(Debug, PartialEq, Eq, Drop)]
+pub enum Request {
+    Get {
+        at: Address,
+    },
+    Children {
+        at: Address,
+        /// The name after which the list begins.
+        after: Option<Text>,
+    },
+    MakeFolder {
+        at: Address,
+        name: Text,
+        behaviour: Conflict,
+    },
+    Put {
+        at: Address,
+        bytes: Bytes,
+        behaviour: Conflict,
+        condition: Condition,
+    },
+    Patch {
+        at: Address,
+        name: Option<Text>,
+        parent: Option<ItemId>,
+        condition: Condition,
+    },
+    Delete {
+        at: Address,
+        condition: Condition,
+    },
+    Content {
+        at: Address,
+    },
+    Download {
+        id: ItemId,
+        /// The content number of the version.
+        version: u64,
+    },
+    OpenSession {
+        at: Address,
+        name: Option<Text>,
+        behaviour: Conflict,
+        condition: Condition,
+    },
+    Fragment {
+        session: u64,
+        /// The offset of the first byte.
+        first: u64,
+        /// The offset of the last byte.
+        last: u64,
+        /// The length of the whole file.
+        total: u64,
+        bytes: Bytes,
+    },
+    SessionStatus {
+        session: u64,
+    },
+    CancelSession {
+        session: u64,
+    },
+    Delta {
+        token: Option<Text>,
+    },
+}
+
+/// The kind of a request.
+#[derive(Clone, Copy, Debug, PartialEq, Eq)]
+pub enum RequestKind {
+    Get,
+    Children,
+    MakeFolder,
+    Put,
+    Patch,
+    Delete,
+    Content,
+    Download,
+    OpenSession,
+    Fragment,
+    SessionStatus,
+    CancelSession,
+    Delta,
+}
+
+impl Request {
+    /// Takes no memory.
+    pub fn kind(&self) -> RequestKind
+        ensures { result ≡ kind_of self.now }
+    {
+        match self {
+            Request::Get { .. } => RequestKind::Get,
+            Request::Children { .. } => RequestKind::Children,
+            Request::MakeFolder { .. } => RequestKind::MakeFolder,
+            Request::Put { .. } => RequestKind::Put,
+            Request::Patch { .. } => RequestKind::Patch,
+            Request::Delete { .. } => RequestKind::Delete,
+            Request::Content { .. } => RequestKind::Content,
+            Request::Download { .. } => RequestKind::Download,
+            Request::OpenSession { .. } => RequestKind::OpenSession,
+            Request::Fragment { .. } => RequestKind::Fragment,
+            Request::SessionStatus { .. } => RequestKind::SessionStatus,
+            Request::CancelSession { .. } => RequestKind::CancelSession,
+            Request::Delta { .. } => RequestKind::Delta,
+        }
+    }
+}
