@@ -1,6 +1,6 @@
 -- What a drive holds is read off the list of its effects. An effect is one made folder, one put, one move or one
 -- removal; each raises the drive's number by one, and made items get the numbers 2, 3 and so on.
-use Rattle.std.specs.Prelude.{ℕ, ◌+◌, Bool, not, cond, List, [], ◌∷◌, ◌++◌, length, map, filter, nat_eq, Option, Some, None}
+use Rattle.std.specs.Prelude.{ℕ, ◌+◌, not, cond, List, [], ◌∷◌, ◌++◌, length, map, filter, nat_eq, Some, None}
 use Rattle.gd_item.specs.declared.live.LiveItem.{LiveItem}
 
 -- what one accepted step did

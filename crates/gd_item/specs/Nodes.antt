@@ -1,6 +1,6 @@
 -- Where an item stands: its number, the number of its folder, its name, and whether it is a folder itself. The
 -- root has the number 1. A path is read by going up from folder to folder to the root.
-use Rattle.std.specs.Prelude.{ℕ, zero, suc, Bool, true, false, ◌&&◌, ◌||◌, not, cond, List, [], ◌∷◌, ◌++◌, length, map, filter, find, is_some, is_none, nat_eq, nat_lt, Option, Some, None}
+use Rattle.std.specs.Prelude.{ℕ, zero, suc, Bool, true, false, ◌&&◌, ◌||◌, not, cond, List, [], ◌∷◌, ◌++◌, length, find, is_none, nat_eq, nat_lt, Option, Some, None}
 use Rattle.std.specs.List.{list_any}
 use Rattle.std.specs.Option.{option_map}
 use Rattle.gd_names.specs.Caseless.{equal_caseless}

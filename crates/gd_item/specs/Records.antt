@@ -1,5 +1,5 @@
 -- The record of an item in a reply, and the feed: the records of what changed, in order of change number.
-use Rattle.std.specs.Prelude.{ℕ, ◌-◌, ◌+◌, Bool, ◌&&◌, cond, List, [], ◌∷◌, ◌++◌, length, map, filter, take, count_by, codes, nat_eq, nat_lt, slice_index, Option, Some, None}
+use Rattle.std.specs.Prelude.{ℕ, ◌-◌, Bool, ◌&&◌, cond, List, [], ◌∷◌, ◌++◌, length, take, count_by, codes, nat_eq, nat_lt, slice_index, Option, Some, None}
 use Rattle.std.specs.Option.{option_map}
 use Rattle.std.specs.Ordering.{nat_cmp}
 use Rattle.std.specs.BTreeMap.{insert_entry}

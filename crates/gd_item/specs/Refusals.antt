@@ -1,6 +1,5 @@
 -- Why a drive refuses to make a folder or to put a file: the first cause that holds, in their order.
 use Rattle.std.specs.Prelude.{ℕ, ◌+◌, ◌-◌, ◌^◌, Bool, true, false, not, ◌||◌, cond, List, [], ◌∷◌, length, map, filter, is_some, is_none, nat_eq, nat_lt, Option, Some, None}
-use Rattle.std.specs.Option.{option_map}
 use Rattle.gd_names.specs.Causes.{first_cause}
 use Rattle.gd_names.specs.Caseless.{equal_caseless}
 use Rattle.gd_names.specs.Names.{name_fault}

@@ -1,6 +1,6 @@
 -- The tags of an item (`eTag` and `cTag`): a letter and a number in decimal. A condition holds where it is free,
 -- where it is `*`, or where it is one of the two tags, bare or in double quotes (`If-Match` of RFC 9110).
-use Rattle.std.specs.Prelude.{ℕ, Bool, true, false, ◌||◌, List, [], ◌∷◌, ◌++◌, codes, nat_eq, Option, Some, None}
+use Rattle.std.specs.Prelude.{ℕ, Bool, true, false, ◌||◌, List, ◌++◌, codes, nat_eq, Option, Some, None}
 use Rattle.std.specs.Fmt.{decimal}
 use Rattle.std.specs.Cmp.Lexicographic.{pointwise}
 use Rattle.gd_item.specs.declared.item.Tag.{Tag}

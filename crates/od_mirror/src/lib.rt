@@ -1,13 +1,8 @@
-// A library with one function.
+//! What a client pulls of a drive: pages of the feed, made into items and paths.
 #![tactic(auto)]
 
-ghost use Rattle.std.specs.Prelude.{◌≡◌};
-ghost use Rattle.od_mirror.specs.Echo.{echo_of};
+mod mirror;
+mod view;
 
-// The `ensures` clause is the contract: what `echo` returns is `echo_of` of its argument, a definition
-// in `specs/Echo.antt`, which a caller's clause can cite too.
-pub fn echo(x: usize) -> usize
-    ensures { result ≡ echo_of x }
-{
-    x
-}
+pub use mirror::{Mirror, PullFault, Taken};
+pub use view::MirrorView;

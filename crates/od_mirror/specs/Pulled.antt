@@ -1,0 +1,77 @@
+-- What a client knows of a drive from the pages of its feed: by number the last record of each item, without the
+-- deleted ones. Pages that make no drive are told by the least number that does not fit.
+use Rattle.std.specs.Prelude.{◌≡◌, ℕ, ◌<◌, Bool, true, false, not, ◌&&◌, ◌||◌, List, [], ◌∷◌, map, filter, is_none, nat_eq, Option, Some, None}
+use Rattle.std.specs.Ordering.{nat_cmp}
+use Rattle.std.specs.BTreeMap.{insert_entry, is_at}
+use Rattle.std.specs.Map.{remove_entry}
+use Rattle.gd_item.specs.Nodes.{Node, item_node, node_at, is_some_folder, path_of, has_twin}
+use Rattle.gd_item.specs.Trees.{in_order, placed}
+use Rattle.gd_item.specs.declared.item.Item.{Item}
+use Rattle.gd_item.specs.declared.item.Kind.{Kind}
+use Rattle.gd_item.specs.declared.item.Kind.TheVariants.{Folder, File, Deleted}
+use Rattle.gd_item.specs.declared.reply.Page.{Page}
+use Rattle.gd_item.specs.declared.reply.PageLink.{PageLink}
+use Rattle.gd_item.specs.declared.reply.PageLink.TheVariants as link
+
+-- what was pulled so far: the items by number, the token of the next request, and the token of the next
+-- enumeration once the last page was taken
+pub record Pulled : Type 0 where
+  pub items : List (ℕ × Item)
+  pub token : Option (List ℕ)
+  pub last : Option (List ℕ)
+
+-- the items after one more record
+abbrev pub with_kind : Kind → List (ℕ × Item) → ℕ → Item → List (ℕ × Item)
+with_kind (Folder child_count) items number item = insert_entry nat_cmp items number item
+with_kind (File digest) items number item = insert_entry nat_cmp items number item
+with_kind Deleted items number item = remove_entry (is_at (nat_cmp number)) items
+
+abbrev pub with_record : List (ℕ × Item) → Item → List (ℕ × Item)
+with_record items item = with_kind item.kind items item.id.0 item
+
+-- the items after these records, in their order
+abbrev pub with_records : List (ℕ × Item) → List Item → List (ℕ × Item)
+with_records items [] = items
+with_records items (item ∷ records) = with_records (with_record items item) records
+
+-- what is pulled when a pull begins with these items and this token
+abbrev pub begun : List Item → Option (List ℕ) → Pulled
+begun items token = record { items = with_records [] items; token = token; last = None }
+
+-- what is pulled after one more page
+abbrev pub after_link : List (ℕ × Item) → PageLink → Pulled
+after_link items (link.Next token) = record { items = items; token = Some token; last = None }
+after_link items (link.Delta token) = record { items = items; token = Some token; last = Some token }
+
+abbrev pub after_page : Pulled → Page → Pulled
+after_page pulled page = after_link (with_records pulled.items page.items) page.link
+
+-- the items as nodes
+abbrev pub nodes : List Item → List Node
+nodes items = map item_node items
+
+-- whether the root is there, and a folder
+abbrev pub has_root : List Node → Bool
+has_root all = is_some_folder (node_at 1 all)
+
+-- whether a node that may be there has no path to the root, or an earlier sibling has its name but for case
+abbrev pub is_misplaced : List Node → Option Node → Bool
+is_misplaced all None = false
+is_misplaced all (Some node) = not (has_root all) || is_none (path_of all node.number) || has_twin all node
+
+-- whether the number does not fit: its item is misplaced, or it is the root's and there is no root
+abbrev pub is_bad : List Node → ℕ → Bool
+is_bad all number = is_misplaced all (node_at number all) || (nat_eq number 1 && not (has_root all))
+
+-- the least number that does not fit
+pub record IsLeastBad (all : List Node) (number : ℕ) : Type 0 where
+  pub bad : is_bad all number ≡ true
+  pub least : (less : ℕ) → less < number → is_bad all less ≡ false
+
+-- every number fits
+abbrev pub AllFit : List Node → Type 0
+AllFit all = (number : ℕ) → is_bad all number ≡ false
+
+-- the items but the root, each at its path, in order of path
+abbrev pub paths_of : List Item → List (List (List ℕ) × Item)
+paths_of items = in_order (placed (λ (item : Item). item.id.0) (nodes items) (filter (λ item. not (nat_eq item.id.0 1)) items))
