@@ -1,0 +1,20 @@
+-- For which effects a store stands, and what a call of it answers.
+use Rattle.std.specs.Prelude.{◌≡◌, ℕ, ◌+◌, ◌<◌, ◌≤◌, ◌⊎◌, List, length, Option, Some, None, Result, IfOk, IfErr}
+use Rattle.gd_item.specs.Inventory.{Inventory, Effect, inventory}
+use Rattle.gd_item.specs.declared.fault.StoreFault.{StoreFault}
+use Rattle.gd_item.specs.declared.fault.StoreFault.TheVariants.{Memory}
+
+-- the store holds what these effects make
+pub record Stands (store : Inventory) (effects : List Effect) : Type 0 where
+  pub held : store ≡ inventory effects
+
+-- the call has no refusal and is done, or it has this refusal, or memory was wanting
+pub record Answers {T : Type 0} (refusal : Option StoreFault) (result : Result T StoreFault) (Done : T → Type 0) : Type 0 where
+  pub ok : IfOk result (λ x. (refusal ≡ None) × Done x)
+  pub err : IfErr result (λ fault. (fault ≡ Memory) ⊎ (refusal ≡ Some fault))
+
+-- the bounds within which a store keeps its fields: fewer than 100,000 items beside the root, and no number given
+-- above the drive's own
+pub record IsWithin (items last number : ℕ) : Type 0 where
+  pub few : items < 100000
+  pub given : last ≤ number
