@@ -1,4 +1,5 @@
 ghost use Rattle.std.specs.Prelude.{◌≡◌, ◌==◌, [], length};
+ghost use Rattle.gd_names.specs.Paths.{begins_character, characters, is_fitting};
 
 use crate::exact::Exact;
 use crate::list::List;
@@ -59,6 +60,33 @@ impl Path {
     {
         self.names.is_empty()
     }
+}
+
+/// Whether an item may stand at the path. Takes no memory.
+pub fn path_fits(path: &Path) -> bool
+    ensures { result ≡ is_fitting path.now }
+{
+    let mut left: usize = 400;
+    for name in path.names() {
+        let length = characters(name.as_bytes());
+        if length >= left {
+            return false;
+        }
+        left -= 1 + length;
+    }
+    true
+}
+
+fn characters(text: &[u8]) -> usize
+    ensures { result ≡ characters text.now }
+{
+    text.iter().filter(|byte| begins_character(**byte)).count()
+}
+
+fn begins_character(byte: u8) -> bool
+    ensures { result ≡ begins_character byte }
+{
+    byte < 128 || byte > 191
 }
 
 impl Clone for Path {
