@@ -3,6 +3,7 @@
 
 mod bytes;
 mod conflict;
+mod escape;
 mod exact;
 mod list;
 mod memory;
@@ -14,6 +15,7 @@ mod text;
 
 pub use bytes::Bytes;
 pub use conflict::{Conflict, Settle, Sibling};
+pub use escape::{EscapeFault, escape_segment, unescape_segment};
 pub use exact::Exact;
 pub use list::List;
 pub use memory::NoMemory;
