@@ -1,17 +1,15 @@
 -- The escapes of this crate against those of `percent_encoding`, and what a text of escapes decodes to.
-use Rattle.std.proofs.Common.{◌≡◌, ℕ, ◌+◌, ◌-◌, ◌*◌, ◌/◌, ◌%◌, ◌<◌, ◌≤◌, Bool, true, false, not, ◌&&◌, ◌||◌, List, [], ◌∷◌, ◌++◌, length, get_or, take, drop, nat_eq, Option, Some, None, is_some, All, sym, refl, ap, ◌∙◌, subst, ⊎_elim, arith, length-drop, eqb, cond}
+use Rattle.std.proofs.Common.{◌≡◌, ℕ, ◌+◌, ◌-◌, ◌*◌, ◌/◌, ◌%◌, ◌<◌, ◌≤◌, true, false, not, ◌&&◌, List, [], ◌∷◌, length, get_or, take, drop, nat_eq, Option, Some, None, is_some, All, sym, refl, ap, ◌∙◌, subst, ⊎_elim, arith, length-drop}
 use Rattle.std.specs.Char.{digit_value, is_digit}
 use Rattle.std.specs.Fmt.{digit_glyph}
-use Rattle.std.specs.List.{list_any, flat_map}
-use Rattle.std.specs.Str.{IsUtf8, is_utf8}
-use Rattle.std.proofs.lemmas.Bool.{agree_below, agree_below_at, cases_Bool, both_ways, ltb-true, cond-true, cond-false, cond_both, eqb-true, eqb-false, eq-eqb, and_from, and_cases, and_parts, not-true, not_from_true}
+use Rattle.std.proofs.lemmas.Bool.{agree_below, agree_below_at, cases_Bool, both_ways, ltb-true, cond-true, cond-false, eqb-true, eqb-false, eq-eqb, and_from, and_parts, not_from_true}
 use Rattle.std.proofs.lemmas.List.{take_rest, get_or-drop, drop-drop}
 use Rattle.std.proofs.lemmas.List.Elements.{All-head, All-tail}
 use Rattle.percent_encoding.specs.AsciiSet.{should_percent_encode}
-use Rattle.percent_encoding.specs.Percent.{percent_encode, percent_encode_byte, percent_decode, encode_byte}
+use Rattle.percent_encoding.specs.Percent.{percent_encode, percent_encode_byte, percent_decode}
 use Rattle.percent_encoding.proofs.PercentLemmas.{percent_encode-nil, percent_encode_escaped, percent_encode_kept, percent_decode-nil, percent_decode_escape, percent_decode_not_percent}
 use Rattle.gd_names.specs.declared.escape.TheConstants.{RESERVED}
-use Rattle.gd_names.specs.Escapes.{is_unreserved, escaped_byte, escaped, before_rest, decoded, is_segment_name, kept_name, unescaped}
+use Rattle.gd_names.specs.Escapes.{is_unreserved, escaped_byte, escaped, before_rest, decoded}
 
 -- ---- writing escapes
 
@@ -76,7 +74,7 @@ decoded_after_cuts text nonempty percent long is_high is_low =
     let is_high : true ≡ is_digit (get_or text 1 0) 16 = is_high ∙ ap (λ (xs : List ℕ). is_digit (get_or xs 0 0) 16) whole ∙ ap (λ x. is_digit x 16) (get_or-drop 1 text 0 0) in
     let is_low : true ≡ is_digit (get_or text 2 0) 16 = is_low ∙ ap (λ (xs : List ℕ). is_digit (get_or xs 1 0) 16) whole ∙ ap (λ x. is_digit x 16) (get_or-drop 1 text 1 0) in
     let cut : take (length (take (length text - 1) (drop 1 text)) - 2) (drop 2 (take (length text - 1) (drop 1 text))) ≡ drop 3 text =
-        take_rest (take (length text - 1) (drop 1 text)) 2 ∙ ap (drop 2) whole ∙ drop-drop 2 1 text
+    take_rest (take (length text - 1) (drop 1 text)) 2 ∙ ap (drop 2) whole ∙ drop-drop 2 1 text
     in
     ap (λ xs. is_some (decoded xs)) cut ∙ decoded_after_escape text (omega (arith, length-drop 1 text)) percent (sym is_high) (sym is_low)
 
@@ -115,16 +113,9 @@ decoded_is (b ∷ c ∷ []) whole =
 decoded_is (b ∷ high ∷ low ∷ rest) whole =
     ⊎_elim
     (λ percent.
-        ⊎_elim
-        (λ digits. escape_step b high low rest percent digits (decoded_is rest) whole)
-        (λ broken. none_left (b ∷ high ∷ low ∷ rest) _ (decoded_broken b high low rest percent broken) whole)
-        (cases_Bool (is_digit high 16 && is_digit low 16)))
+    ⊎_elim
+    (λ digits. escape_step b high low rest percent digits (decoded_is rest) whole)
+    (λ broken. none_left (b ∷ high ∷ low ∷ rest) _ (decoded_broken b high low rest percent broken) whole)
+    (cases_Bool (is_digit high 16 && is_digit low 16)))
     (λ e. plain_step b (high ∷ low ∷ rest) e (decoded_is (high ∷ low ∷ rest)) whole)
     (cases_Bool (nat_eq b 37))
-
-pub kept_text : (bytes text : List ℕ) → list_any (λ b. nat_eq b 47 || nat_eq b 0) bytes ≡ false → (text ≡ bytes) × (is_utf8 bytes ≡ true) → kept_name (Some bytes) ≡ Some text
-kept_text bytes text clean is_text = cond-true (is_segment_name bytes) (Some bytes) None (and_from _ _ is_text.1 (ap not clean)) ∙ ap Some (sym is_text.0)
-
-pub unescaped_from_decoded : (segment : List ℕ) → 0 < length segment → unescaped segment ≡ kept_name (decoded segment)
-unescaped_from_decoded [] some = absurd (omega arith)
-unescaped_from_decoded (b ∷ segment) some = refl

@@ -1,5 +1,5 @@
 -- What a read from the source in memory does to the bytes that are left.
-use Rattle.std.proofs.Common.{◌≡◌, ℕ, ◌+◌, ◌-◌, ◌<◌, ◌≤◌, min, List, [], ◌++◌, length, take, drop, Some, Ok, sym, refl, ap, ◌∙◌, arith, length-take, length-drop, length-append}
+use Rattle.std.proofs.Common.{◌≡◌, ℕ, ◌+◌, ◌-◌, ◌<◌, min, List, ◌++◌, length, take, drop, Some, Ok, refl, ap, ◌∙◌, arith, length-take, length-drop, length-append}
 use Rattle.std.proofs.lemmas.List.{take_rest, take_at, take-append-drop, drop-drop, nil_from_length}
 use Rattle.gd_names.specs.Streams.{Reads}
 
@@ -16,9 +16,9 @@ reads_piece bytes slice room filled at count piece fits same is_fits is_count so
     record {
       ok = λ left is_left. (drop (at + count) bytes, refl, rw (front, ← (drop-drop count at bytes), take-append-drop count (drop at bytes)) (cc));
       end = λ none has_room left is_left.
-        let rest : left ≡ drop at bytes = cc in
-        let room_length : length (filled ++ drop count room) ≡ length filled + (length room - count) = length-append filled (drop count room) ∙ ap (λ n. length filled + n) (length-drop count room) in
-        let empty : length (drop at bytes) ≡ 0 = omega arith in
-        rest ∙ nil_from_length (drop at bytes) empty;
+          let rest : left ≡ drop at bytes = cc in
+          let room_length : length (filled ++ drop count room) ≡ length filled + (length room - count) = length-append filled (drop count room) ∙ ap (λ n. length filled + n) (length-drop count room) in
+          let empty : length (drop at bytes) ≡ 0 = omega arith in
+          rest ∙ nil_from_length (drop at bytes) empty;
       err = tt;
     }

@@ -1,5 +1,5 @@
 -- The names that an item may have: this drive's own rules, close to those of OneDrive for names of files.
-use Rattle.std.specs.Prelude.{ℕ, ◌-◌, Bool, false, ◌||◌, List, [], ◌∷◌, length, codes, nat_eq, nat_lt, Option, Some}
+use Rattle.std.specs.Prelude.{ℕ, Bool, ◌||◌, List, [], ◌∷◌, length, codes, nat_eq, nat_lt, Option}
 use Rattle.std.specs.List.{list_any, starts_with, ends_with}
 use Rattle.std.specs.Cmp.Lexicographic.{pointwise}
 use Rattle.gd_names.specs.Causes.{first_cause}

@@ -30,7 +30,13 @@ impl From<AllocError> for EscapeFault {
 }
 
 /// Every ASCII byte but the unreserved characters of a URL (RFC 3986, section 2.3).
-const RESERVED: AsciiSet = ascii_set!(NON_ALPHANUMERIC.remove(b'-').remove(b'.').remove(b'_').remove(b'~'));
+const RESERVED: AsciiSet = ascii_set!(
+    NON_ALPHANUMERIC
+        .remove(b'-')
+        .remove(b'.')
+        .remove(b'_')
+        .remove(b'~')
+);
 
 /// The name as a segment of a path, with each byte that is not unreserved escaped.
 pub fn escape_segment(alloc: Global, name: &Text) -> Result<Text, NoMemory>

@@ -20,7 +20,7 @@ pub use exact::Exact;
 pub use list::List;
 pub use memory::NoMemory;
 pub use name::{NameFault, check_name, same_caseless};
-pub use path::{Path, path_fits};
+pub use path::{Path, PathFault, path_fits};
 pub use sink::{MemorySink, Sink, SinkFault};
 pub use source::{MemorySource, Source, SourceFault};
 pub use text::{Text, TextFault};

@@ -82,8 +82,31 @@ fn is_reserved(name: &[u8]) -> bool
 }
 
 const RESERVED_NAMES: [&[u8]; 26] = [
-    b".lock", b"con", b"prn", b"aux", b"nul", b"com0", b"com1", b"com2", b"com3", b"com4", b"com5", b"com6", b"com7",
-    b"com8", b"com9", b"lpt0", b"lpt1", b"lpt2", b"lpt3", b"lpt4", b"lpt5", b"lpt6", b"lpt7", b"lpt8", b"lpt9",
+    b".lock",
+    b"con",
+    b"prn",
+    b"aux",
+    b"nul",
+    b"com0",
+    b"com1",
+    b"com2",
+    b"com3",
+    b"com4",
+    b"com5",
+    b"com6",
+    b"com7",
+    b"com8",
+    b"com9",
+    b"lpt0",
+    b"lpt1",
+    b"lpt2",
+    b"lpt3",
+    b"lpt4",
+    b"lpt5",
+    b"lpt6",
+    b"lpt7",
+    b"lpt8",
+    b"lpt9",
     b"desktop.ini",
 ];
 
