@@ -3,6 +3,7 @@
 
 mod bytes;
 mod conflict;
+mod escape;
 mod exact;
 mod list;
 mod memory;
@@ -14,11 +15,12 @@ mod text;
 
 pub use bytes::Bytes;
 pub use conflict::{Conflict, Settle, Sibling};
+pub use escape::{EscapeFault, escape_segment, unescape_segment};
 pub use exact::Exact;
 pub use list::List;
 pub use memory::NoMemory;
-pub use name::{NameFault, same_caseless};
-pub use path::Path;
+pub use name::{NameFault, check_name, same_caseless};
+pub use path::{Path, PathFault, path_fits};
 pub use sink::{MemorySink, Sink, SinkFault};
 pub use source::{MemorySource, Source, SourceFault};
 pub use text::{Text, TextFault};
