@@ -14,7 +14,7 @@ pub use condition::Condition;
 pub use digest::{Digest, digest_of};
 pub use fault::{ErrorCode, StoreFault};
 pub use id::ItemId;
-pub use item::{Item, Kind, Tag};
+pub use item::{Item, Kind, Tag, ctag_of, etag_of};
 pub use live::{LiveItem, Place};
 pub use reply::{Page, PageLink, Reply, Resync};
 pub use request::{Address, Request, RequestKind};

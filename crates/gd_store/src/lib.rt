@@ -1,8 +1,10 @@
 //! The items of a drive by number, as a plain list: what its steps do, and why they are refused.
 #![tactic(auto)]
 
+mod feed;
 mod look;
 mod path;
+mod record;
 mod store;
 
 pub use gd_item::StoreFault;

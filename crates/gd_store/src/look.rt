@@ -1,12 +1,12 @@
-ghost use Rattle.std.specs.Prelude.{◌≡◌, ◌<◌, length, nat_eq, map, position, Some, None, IfOk, IfSome};
+ghost use Rattle.std.specs.Prelude.{◌≡◌, map, IfOk};
 ghost use Rattle.std.specs.Option.{option_copied};
-ghost use Rattle.std.specs.List.{list_any};
 ghost use Rattle.gd_item.specs.Nodes.{live_node, is_folder, child_at};
+ghost use Rattle.gd_item.specs.Inventory.{changed, with_bytes};
 ghost use Rattle.gd_item.specs.Records.{live_at};
 ghost use Rattle.gd_item.specs.Refusals.{is_there, live_named, siblings_in};
 
 use gd_item::LiveItem;
-use gd_names::{List, NoMemory, Sibling, Text, same_caseless};
+use gd_names::{Bytes, List, NoMemory, Sibling, Text, same_caseless};
 use std::alloc::Global;
 
 /// The living item of a number.
@@ -95,10 +95,16 @@ pub fn siblings(alloc: Global, items: &[LiveItem], parent: u64) -> Result<List<S
     Ok(found)
 }
 
-/// The index of the item of a number.
-pub fn index_of(items: &[LiveItem], number: u64) -> Option<usize>
-    ensures value { result ≡ position (λ item. nat_eq item.number number) items.now }
-    ensures within { IfSome result (λ index. index < length items.now) }
+/// Gives new bytes to the item of a number.
+pub fn overwrite(items: &mut [LiveItem], number: u64, change: u64, bytes: Bytes)
+    ensures { items.new ≡ changed number (with_bytes change bytes) items.old }
 {
-    items.iter().position(|item| item.number == number)
+    for item in items.iter_mut() {
+        if item.number == number {
+            item.bytes = Some(bytes);
+            item.change = change;
+            item.content = change;
+            return;
+        }
+    }
 }
