@@ -5,5 +5,6 @@ pub mod Nodes
 pub mod Records
 pub mod Refusals
 pub mod Requests
+pub mod Sound
 pub mod Tags
 pub mod Trees
