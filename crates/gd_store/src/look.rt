@@ -1,6 +1,6 @@
 ghost use Rattle.std.specs.Prelude.{◌≡◌, map, IfOk};
 ghost use Rattle.std.specs.Option.{option_copied};
-ghost use Rattle.gd_item.specs.Nodes.{live_node, is_folder, child_at};
+ghost use Rattle.gd_item.specs.Nodes.{live_node, is_folder, child_at, number_at};
 ghost use Rattle.gd_item.specs.Inventory.{changed, with_bytes};
 ghost use Rattle.gd_item.specs.Records.{live_at};
 ghost use Rattle.gd_item.specs.Refusals.{is_there, live_named, siblings_in};
@@ -107,4 +107,18 @@ pub fn overwrite(items: &mut [LiveItem], number: u64, change: u64, bytes: Bytes)
             return;
         }
     }
+}
+
+/// The number at the end of the names that go down from the root.
+pub fn find_names(items: &[LiveItem], names: &[Text]) -> Option<u64>
+    ensures { result ≡ number_at names.now (map live_node items.now) }
+{
+    let mut number = 1;
+    for name in names {
+        match child_named(items, number, name) {
+            Some(child) => number = child,
+            None => return None,
+        }
+    }
+    Some(number)
 }

@@ -1,8 +1,11 @@
-ghost use Rattle.std.specs.Prelude.{◌≡◌, IfOk};
-ghost use Rattle.gd_item.specs.Records.{child_count, content_tag, kind_at, size_of, record_of, root_record};
+ghost use Rattle.std.specs.Prelude.{◌≡◌, map, IfOk};
+ghost use Rattle.gd_item.specs.Records.{child_count, content_tag, kind_at, size_of, record_of, root_record, parent_path_text};
+ghost use Rattle.gd_item.specs.Nodes.{live_node, path_of};
+ghost use Rattle.std.specs.Option.{option_map};
 
+use crate::path::path_to;
 use gd_item::{Item, ItemId, Kind, LiveItem, Tag, ctag_of, digest_of, etag_of};
-use gd_names::{Bytes, NoMemory, Text};
+use gd_names::{Bytes, NoMemory, Path, Text};
 use std::alloc::Global;
 
 /// How many items stand in a folder.
@@ -81,4 +84,34 @@ pub fn make_root_record(alloc: Global, items: &[LiveItem]) -> Result<Item, NoMem
             child_count: count_children(items, 1),
         },
     })
+}
+
+/// The text of the path of a folder, as the items in it have it.
+fn drive_path(alloc: Global, path: &Path) -> Result<Text, NoMemory>
+    ensures { IfOk result (λ text. text ≡ parent_path_text path.now) }
+{
+    if path.is_root() {
+        return Text::from_str(alloc, "/drive/root:");
+    }
+    let names = path.write(alloc)?;
+    let mut text = String::from_str(alloc, "/drive/root:")?;
+    text.push_str(names.as_str())?;
+    Ok(Text::from_string(text))
+}
+
+/// The text of the path of the folder of a number, if its folders lead up to the root.
+pub fn parent_path_of(
+    alloc: Global,
+    items: &[LiveItem],
+    parent: u64,
+) -> Result<Option<Text>, NoMemory>
+    ensures { IfOk result (λ text. text ≡ option_map parent_path_text (path_of (map live_node items.now) parent)) }
+{
+    match path_to(alloc, items, parent)? {
+        None => Ok(None),
+        Some(path) => {
+            let text = drive_path(alloc, &path)?;
+            Ok(Some(text))
+        }
+    }
 }

@@ -1,21 +1,23 @@
-ghost use Rattle.std.specs.Prelude.{◌≡◌, ◌+◌, ◌<◌, ◌^◌, ◌++◌, [], ◌∷◌, length, map, is_some, true, false, Some, None, IfOk, OnErr};
+ghost use Rattle.std.specs.Prelude.{◌≡◌, ℕ, List, ◌+◌, ◌<◌, ◌^◌, ◌++◌, [], ◌∷◌, length, map, is_some, true, false, Some, None, IfOk, OnErr};
 ghost use Rattle.gd_item.specs.Ids.{item_id};
 ghost use Rattle.gd_item.specs.Inventory.{Effect, MadeFolder, PutNew, PutOver, after, inventory};
-ghost use Rattle.gd_item.specs.Nodes.{is_folder, path_of};
+ghost use Rattle.gd_item.specs.Nodes.{is_folder, path_of, number_at};
 ghost use Rattle.gd_item.specs.Refusals.{is_there, settled_in, is_refuse, settled_path, is_too_long, is_over_quota, made_items, is_met as is_condition_met, live_named, make_folder_refusal, make_folder_effect, put_over_refusal, put_under_refusal, file_effect};
-ghost use Rattle.gd_item.specs.Records.{live_at};
-ghost use Rattle.std.specs.Option.{option_copied};
+ghost use Rattle.gd_item.specs.Records.{live_at, record_at, record_with, feed, first_of, last_of};
+ghost use Rattle.std.specs.Option.{option_copied, option_map};
 ghost use Rattle.gd_store.specs.Stands.{put_result};
 ghost use Rattle.gd_item.specs.Trees.{nodes_of};
 ghost use Rattle.gd_names.specs.Names.{name_fault};
 
-use crate::look::{is_a_folder, is_known, item_at, item_named, overwrite, siblings};
+use crate::feed::{first_changes, put_items, put_root};
+use crate::look::{find_names, is_a_folder, is_known, item_at, item_named, overwrite, siblings};
 use crate::path::path_to;
-use crate::record::content_tag_of;
+use crate::record::{content_tag_of, make_record, make_root_record, parent_path_of};
 use gd_conflict::settle;
-use gd_item::{Condition, ItemId, LiveItem, StoreFault, etag_of, matches};
-use gd_names::{Bytes, Conflict, NoMemory, Path, Settle, Text, check_name, path_fits};
+use gd_item::{Condition, Item, ItemId, LiveItem, StoreFault, etag_of, matches};
+use gd_names::{Bytes, Conflict, List, NoMemory, Path, Settle, Text, check_name, path_fits};
 use std::alloc::Global;
+use std::collections::BTreeMap;
 use std::marker::Model;
 
 /// How many items may live, the root among them.
@@ -91,7 +93,109 @@ fn made_by(settle: &Settle) -> usize
 }
 
 impl Store {
-    ghost use Rattle.gd_store.specs.Stands.{Stands, Answers};
+    ghost use Rattle.gd_store.specs.Stands.{Stands, Answers, missing};
+
+    /// A drive with its root alone.
+    pub fn new(alloc: Global) -> Result<Store, NoMemory>
+        ensures { IfOk result (λ store. Stands store []) }
+    {
+        Ok(Store {
+            alloc,
+            items: Vec::new(alloc),
+            number: 1,
+            last: 1,
+            kept: 0,
+        })
+    }
+
+    /// The drive's change number: 1, and one more for each effect. Takes no memory.
+    pub fn number(&self) -> u64
+        ensures { (log : List Effect) → Stands self.now log → result ≡ length log + 1 }
+    {
+        self.number
+    }
+
+    /// The item at a path. Takes no memory.
+    pub fn by_path(&self, path: &Path) -> Option<ItemId>
+        ensures { (log : List Effect) → Stands self.now log → result ≡ option_map item_id (number_at path.now (nodes_of (inventory log))) }
+    {
+        match self.find(path) {
+            Some(number) => Some(ItemId(number)),
+            None => None,
+        }
+    }
+
+    /// The record of an item, with the path of its folder if it is asked for.
+    pub fn get(&self, id: ItemId, with_path: bool) -> Result<Item, StoreFault>
+        ensures { (log : List Effect) → Stands self.now log
+            → Answers (missing (record_at id.0 with_path (inventory log))) result (λ item. record_at id.0 with_path (inventory log) ≡ Some item) }
+    {
+        match self.find_record(id.0, with_path)? {
+            Some(item) => Ok(item),
+            None => Err(StoreFault::NotFound),
+        }
+    }
+
+    /// The feed past a position, at most so many records of it, and the change number of the last one where more
+    /// follow.
+    pub fn changed_after(
+        &self,
+        position: u64,
+        removed_after: u64,
+        most: u64,
+    ) -> Result<(List<Item>, Option<u64>), NoMemory>
+        requires { 0 < most }
+        ensures { IfOk result (λ found. (log : List Effect) → Stands self.now log
+            → (found.0 ≡ first_of most (feed (inventory log) position removed_after)) × (found.1 ≡ last_of most (feed (inventory log) position removed_after))) }
+    {
+        let changes = self.changes(position)?;
+        first_changes(self.alloc, changes, most)
+    }
+
+    /// The number at a path.
+    fn find(&self, path: &Path) -> Option<u64>
+        ensures { result ≡ number_at path.now (nodes_of self.now) }
+    {
+        find_names(self.items.as_slice(), path.names())
+    }
+
+    /// The record of a number.
+    fn find_record(&self, number: u64, with_path: bool) -> Result<Option<Item>, NoMemory>
+        ensures { IfOk result (λ found. found ≡ record_at number with_path self.now) }
+    {
+        if number == 1 {
+            let root = make_root_record(self.alloc, self.items.as_slice())?;
+            return Ok(Some(root));
+        }
+        match item_at(self.items.as_slice(), number) {
+            None => Ok(None),
+            Some(item) => {
+                let made = self.record_of(item, with_path)?;
+                Ok(Some(made))
+            }
+        }
+    }
+
+    /// The record of a living item.
+    fn record_of(&self, item: &LiveItem, with_path: bool) -> Result<Item, NoMemory>
+        ensures { IfOk result (λ made. made ≡ record_with with_path self.now item.now) }
+    {
+        let mut made = make_record(self.alloc, self.items.as_slice(), item)?;
+        if with_path {
+            made.parent_path = parent_path_of(self.alloc, self.items.as_slice(), item.parent)?;
+        }
+        Ok(made)
+    }
+
+    /// The records past a position, by change number.
+    fn changes(&self, position: u64) -> Result<BTreeMap<u64, Item>, NoMemory>
+        ensures { IfOk result (λ changes. (n : ℕ) → changes.entries ≡ feed self.now position n) }
+    {
+        let mut changes = BTreeMap::new(self.alloc);
+        put_root(self.alloc, &mut changes, self.items.as_slice(), position)?;
+        put_items(self.alloc, &mut changes, self.items.as_slice(), position)?;
+        Ok(changes)
+    }
 
     /// How a name is settled in a folder.
     fn settle(
