@@ -5,9 +5,10 @@ use Rattle.gd_names.specs.Names.{name_fault}
 use Rattle.gd_names.specs.declared.conflict.Conflict.{Conflict}
 use Rattle.gd_names.specs.declared.conflict.Settle.{Settle}
 use Rattle.gd_names.specs.declared.conflict.Settle.TheVariants.{Free, Over, Refuse}
+use Rattle.gd_item.specs.declared.condition.Condition.{Condition}
 use Rattle.gd_item.specs.Inventory.{Inventory}
 use Rattle.gd_item.specs.Nodes.{is_folder}
-use Rattle.gd_item.specs.Refusals.{is_there, settled_in, is_refuse, settled_path, is_too_long, made_items, is_over_quota, make_folder_refusal}
+use Rattle.gd_item.specs.Refusals.{is_there, settled_in, is_refuse, settled_path, is_too_long, made_items, is_over_quota, make_folder_refusal, put_under_refusal}
 use Rattle.gd_item.specs.Trees.{nodes_of}
 
 -- a list of causes with no refusal: the first test is false, and the others refuse nothing
@@ -84,4 +85,40 @@ room-for-one held settle free bytes is room =
 pub next-number : (held : Inventory) (items bytes : ℕ) → HasRoom held items bytes → held.number + 1 < 2 ^ 64
 next-number held items bytes room =
     let early : held.number + 1 ≤ 2 ^ 64 - 1 = room.early in
+    omega arith
+
+-- a file may be put under a folder
+pub record MayPut (held : Inventory) (parent : ℕ) (name bytes : List ℕ) (others : ℕ) (settle : Settle) : Type 0 where
+  pub there : is_there parent (nodes_of held) ≡ true
+  pub folder : is_folder parent (nodes_of held) ≡ true
+  pub named : is_some (name_fault name) ≡ false
+  pub had : is_refuse settle ≡ false
+  pub fits : is_too_long (settled_path held parent settle) ≡ false
+  pub room : HasRoom held (made_items settle) (length bytes + others)
+
+pub may-put : (held : Inventory) (parent : ℕ) (name bytes : List ℕ) (behaviour : Conflict) (condition : Condition) (others : ℕ) (settle : Settle) → settle ≡ settled_in held parent name behaviour false
+    → None ≡ put_under_refusal held parent name bytes behaviour condition others → MayPut held parent name bytes others settle
+may-put held parent name bytes behaviour condition others settle is h =
+    let P : Settle → Type 0 = λ s. MayPut held parent name bytes others s in
+    let a = clear _ _ _ h in
+    let b = clear _ _ _ a.1 in
+    let c = clear _ _ _ b.1 in
+    let d = clear _ _ _ c.1 in
+    let e = clear _ _ _ d.1 in
+    let f = clear _ _ _ e.1 in
+    let g = clear _ _ _ f.1 in
+    subst P (sym is) (record {
+      there = un-not _ a.0;
+      folder = un-not _ b.0;
+      named = c.0;
+      had = e.0;
+      fits = f.0;
+      room = has-room _ _ _ g.0;
+    })
+
+-- the kept bytes stay in their type
+pub kept-fits : (held : Inventory) (items others : ℕ) (bytes copy : List ℕ) → copy ≡ bytes → HasRoom held items (length bytes + others) → held.kept + length copy < 2 ^ 64
+kept-fits held items others bytes copy same room =
+    let light : held.kept + (length bytes + others) ≤ 536870912 = room.light in
+    let long : length copy ≡ length bytes = ap length same in
     omega arith

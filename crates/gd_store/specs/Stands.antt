@@ -1,6 +1,9 @@
 -- For which effects a store stands, and what a call of it answers.
-use Rattle.std.specs.Prelude.{◌≡◌, ℕ, ◌+◌, ◌<◌, ◌≤◌, ◌⊎◌, List, length, Option, Some, None, Result, IfOk, IfErr}
+use Rattle.std.specs.Prelude.{◌≡◌, ℕ, ◌+◌, ◌<◌, ◌≤◌, ◌⊎◌, Bool, List, length, Option, Some, None, Result, IfOk, IfErr}
 use Rattle.gd_item.specs.Inventory.{Inventory, Effect, inventory}
+use Rattle.gd_item.specs.Ids.{item_id}
+use Rattle.gd_item.specs.Refusals.{touched, is_made}
+use Rattle.gd_item.specs.declared.id.ItemId.{ItemId}
 use Rattle.gd_item.specs.declared.fault.StoreFault.{StoreFault}
 use Rattle.gd_item.specs.declared.fault.StoreFault.TheVariants.{Memory}
 
@@ -18,3 +21,7 @@ pub record Answers {T : Type 0} (refusal : Option StoreFault) (result : Result T
 pub record IsWithin (items last number : ℕ) : Type 0 where
   pub few : items < 100000
   pub given : last ≤ number
+
+-- what a put hands back: the item, and whether it was made
+abbrev pub put_result : Inventory → Effect → ItemId × Bool
+put_result held effect = (item_id (touched held effect), is_made effect)

@@ -1,15 +1,19 @@
-ghost use Rattle.std.specs.Prelude.{◌≡◌, ◌+◌, ◌<◌, ◌^◌, ◌++◌, [], ◌∷◌, length, map, is_some, true, Some, None, IfOk, OnErr};
+ghost use Rattle.std.specs.Prelude.{◌≡◌, ◌+◌, ◌<◌, ◌^◌, ◌++◌, [], ◌∷◌, length, map, is_some, true, false, Some, None, IfOk, OnErr};
 ghost use Rattle.gd_item.specs.Ids.{item_id};
 ghost use Rattle.gd_item.specs.Inventory.{Effect, MadeFolder, PutNew, PutOver, after, inventory};
 ghost use Rattle.gd_item.specs.Nodes.{is_folder, path_of};
-ghost use Rattle.gd_item.specs.Refusals.{is_there, settled_in, is_refuse, settled_path, is_too_long, is_over_quota, made_items, make_folder_refusal, make_folder_effect};
+ghost use Rattle.gd_item.specs.Refusals.{is_there, settled_in, is_refuse, settled_path, is_too_long, is_over_quota, made_items, is_met as is_condition_met, live_named, make_folder_refusal, make_folder_effect, put_over_refusal, put_under_refusal, file_effect};
+ghost use Rattle.gd_item.specs.Records.{live_at};
+ghost use Rattle.std.specs.Option.{option_copied};
+ghost use Rattle.gd_store.specs.Stands.{put_result};
 ghost use Rattle.gd_item.specs.Trees.{nodes_of};
 ghost use Rattle.gd_names.specs.Names.{name_fault};
 
-use crate::look::{is_a_folder, is_known, overwrite, siblings};
+use crate::look::{is_a_folder, is_known, item_at, item_named, overwrite, siblings};
 use crate::path::path_to;
+use crate::record::content_tag_of;
 use gd_conflict::settle;
-use gd_item::{ItemId, LiveItem, StoreFault};
+use gd_item::{Condition, ItemId, LiveItem, StoreFault, etag_of, matches};
 use gd_names::{Bytes, Conflict, NoMemory, Path, Settle, Text, check_name, path_fits};
 use std::alloc::Global;
 use std::marker::Model;
@@ -243,6 +247,172 @@ impl Store {
                 Ok(id)
             }
             Settle::Over(_) => Err(StoreFault::NameTaken),
+            Settle::Refuse => Err(StoreFault::NameTaken),
+        }
+    }
+
+    /// Whether an item that may be there meets a condition.
+    fn meets(&self, condition: &Condition, item: Option<&LiveItem>) -> Result<bool, NoMemory>
+        ensures { IfOk result (λ met. met ≡ is_condition_met condition.now (option_copied item.entry)) }
+    {
+        if *condition == Condition::Free {
+            return Ok(true);
+        }
+        let Some(item) = item else {
+            return Ok(false);
+        };
+        let etag = etag_of(self.alloc, item.change)?;
+        let ctag = content_tag_of(self.alloc, item)?;
+        Ok(matches(condition, &etag, ctag.as_ref()))
+    }
+
+    /// Whether the living item of a number meets a condition.
+    fn meets_at(&self, number: u64, condition: &Condition) -> Result<bool, NoMemory>
+        ensures { IfOk result (λ met. met ≡ is_condition_met condition.now (live_at number self.now.items)) }
+    {
+        let item = item_at(self.items.as_slice(), number);
+        self.meets(condition, item)
+    }
+
+    /// Whether the item of a folder that has the name meets a condition.
+    fn meets_under(&self, parent: u64, name: &Text, condition: &Condition) -> Result<bool, NoMemory>
+        ensures { IfOk result (λ met. met ≡ is_condition_met condition.now (live_named parent name.now self.now.items)) }
+    {
+        let item = item_named(self.items.as_slice(), parent, name);
+        self.meets(condition, item)
+    }
+
+    /// Whether the item of a number has a path that is longer than any item's may be.
+    fn is_long_at(&self, number: u64) -> Result<bool, NoMemory>
+        ensures { IfOk result (λ long. long ≡ is_too_long (path_of (nodes_of self.now) number)) }
+    {
+        let path = path_to(self.alloc, self.items.as_slice(), number)?;
+        Ok(is_long(&path))
+    }
+
+    /// Why a file is not put over the item of a number.
+    fn over_refusal(
+        &self,
+        number: u64,
+        bytes: &[u8],
+        condition: &Condition,
+        others: u64,
+        is_met: bool,
+        is_long: bool,
+    ) -> Option<StoreFault>
+        requires met { is_met ≡ is_condition_met condition.now (live_at number self.now.items) }
+        requires long { is_long ≡ is_too_long (path_of (nodes_of self.now) number) }
+        ensures { result ≡ put_over_refusal self.now number bytes.now condition.now others }
+    {
+        if !is_known(self.items.as_slice(), number) {
+            Some(StoreFault::NotFound)
+        } else if is_a_folder(self.items.as_slice(), number) {
+            Some(StoreFault::NotFile)
+        } else if !is_met {
+            Some(StoreFault::Modified)
+        } else if is_long {
+            Some(StoreFault::PathTooLong)
+        } else if self.is_full(0, bytes.len() as u64, others) {
+            Some(StoreFault::Quota)
+        } else {
+            None
+        }
+    }
+
+    /// Why a file is not put under a folder.
+    fn under_refusal(
+        &self,
+        parent: u64,
+        name: &Text,
+        bytes: &[u8],
+        behaviour: Conflict,
+        condition: &Condition,
+        others: u64,
+        settle: &Settle,
+        is_met: bool,
+        is_long: bool,
+    ) -> Option<StoreFault>
+        requires settle { settle.now ≡ settled_in self.now parent name.now behaviour false }
+        requires met { is_met ≡ is_condition_met condition.now (live_named parent name.now self.now.items) }
+        requires long { is_long ≡ is_too_long (settled_path self.now parent settle.now) }
+        ensures { result ≡ put_under_refusal self.now parent name.now bytes.now behaviour condition.now others }
+    {
+        if !is_known(self.items.as_slice(), parent) {
+            Some(StoreFault::NotFound)
+        } else if !is_a_folder(self.items.as_slice(), parent) {
+            Some(StoreFault::NotFolder)
+        } else if is_bad_name(name) {
+            Some(StoreFault::BadName)
+        } else if !is_met {
+            Some(StoreFault::Modified)
+        } else if is_refused(settle) {
+            Some(StoreFault::NameTaken)
+        } else if is_long {
+            Some(StoreFault::PathTooLong)
+        } else if self.is_full(made_by(settle), bytes.len() as u64, others) {
+            Some(StoreFault::Quota)
+        } else {
+            None
+        }
+    }
+
+    /// Puts a file over the item of a number, or says why not.
+    fn put_over(
+        &mut self,
+        number: u64,
+        bytes: &[u8],
+        condition: &Condition,
+        others: u64,
+    ) -> Result<(ItemId, bool), StoreFault>
+        ensures answer { Answers (put_over_refusal self.old number bytes.now condition.now others) result
+            (λ put. (put ≡ (item_id number, false)) × (self.new ≡ after self.old (PutOver number bytes.now))) }
+        ensures kept { OnErr result (self.new ≡ self.old) }
+    {
+        let is_met = self.meets_at(number, condition)?;
+        let is_long = self.is_long_at(number)?;
+        match self.over_refusal(number, bytes, condition, others, is_met, is_long) {
+            Some(fault) => return Err(fault),
+            None => {}
+        }
+        let copy = Bytes::from_slice(self.alloc, bytes)?;
+        self.put_bytes(number, copy);
+        Ok((ItemId(number), false))
+    }
+
+    /// Puts a file under a folder, or says why not.
+    fn put_under(
+        &mut self,
+        parent: u64,
+        name: &Text,
+        bytes: &[u8],
+        behaviour: Conflict,
+        condition: &Condition,
+        others: u64,
+    ) -> Result<(ItemId, bool), StoreFault>
+        ensures answer { Answers (put_under_refusal self.old parent name.now bytes.now behaviour condition.now others) result
+            (λ put. (put ≡ put_result self.old (file_effect parent name.now bytes.now (settled_in self.old parent name.now behaviour false)))
+            × (self.new ≡ after self.old (file_effect parent name.now bytes.now (settled_in self.old parent name.now behaviour false)))) }
+        ensures kept { OnErr result (self.new ≡ self.old) }
+    {
+        let settle = self.settle(parent, name, behaviour, false)?;
+        let is_met = self.meets_under(parent, name, condition)?;
+        let is_long = self.would_be_long(parent, &settle)?;
+        match self.under_refusal(
+            parent, name, bytes, behaviour, condition, others, &settle, is_met, is_long,
+        ) {
+            Some(fault) => return Err(fault),
+            None => {}
+        }
+        let copy = Bytes::from_slice(self.alloc, bytes)?;
+        match settle {
+            Settle::Free(free) => {
+                let id = self.add_file(parent, free, copy)?;
+                Ok((id, true))
+            }
+            Settle::Over(number) => {
+                self.put_bytes(number, copy);
+                Ok((ItemId(number), false))
+            }
             Settle::Refuse => Err(StoreFault::NameTaken),
         }
     }

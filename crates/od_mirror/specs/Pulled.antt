@@ -12,6 +12,8 @@ use Rattle.gd_item.specs.declared.item.Kind.TheVariants.{Folder, File, Deleted}
 use Rattle.gd_item.specs.declared.reply.Page.{Page}
 use Rattle.gd_item.specs.declared.reply.PageLink.{PageLink}
 use Rattle.gd_item.specs.declared.reply.PageLink.TheVariants as link
+use Rattle.od_mirror.specs.declared.mirror.Taken.{Taken}
+use Rattle.od_mirror.specs.declared.mirror.Taken.TheVariants.{More, Last}
 
 -- what was pulled so far: the items by number, the token of the next request, and the token of the next
 -- enumeration once the last page was taken
@@ -75,3 +77,8 @@ AllFit all = (number : ℕ) → is_bad all number ≡ false
 -- the items but the root, each at its path, in order of path
 abbrev pub paths_of : List Item → List (List (List ℕ) × Item)
 paths_of items = in_order (placed (λ (item : Item). item.id.0) (nodes items) (filter (λ item. not (nat_eq item.id.0 1)) items))
+
+-- whether more pages come after a page with this link
+abbrev pub taken_of : PageLink → Taken
+taken_of (link.Next token) = More
+taken_of (link.Delta token) = Last

@@ -1,6 +1,7 @@
 //! What a client pulls of a drive: pages of the feed, made into items and paths.
 #![tactic(auto)]
 
+mod climb;
 mod mirror;
 mod view;
 

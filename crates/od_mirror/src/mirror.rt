@@ -1,5 +1,14 @@
-ghost use Rattle.std.specs.Prelude.{◌≡◌, ℕ, Some, None, IsSome, IfOk, OnOk, IsErrOf};
+ghost use Rattle.std.specs.Prelude.{◌≡◌, ℕ, Some, None, [], IsSome, IfOk, OnOk, IsErrOf};
+ghost use Rattle.std.specs.List.Sorted.{IsStrictlySortedBy};
+ghost use Rattle.std.specs.Map.{keys_of, values_of};
+ghost use Rattle.std.specs.Option.{option_copied};
+ghost use Rattle.std.specs.Ordering.{nat_cmp};
+ghost use Rattle.gd_item.specs.Ids.{item_id};
+ghost use Rattle.od_mirror.specs.Climbs.{IsKeyed};
+ghost use Rattle.od_mirror.specs.Pulled.{begun, after_page, taken_of, nodes, with_record, with_records, IsLeastBad, AllFit};
 
+use crate::climb::first_bad;
+use crate::view::MirrorView;
 use gd_item::{Item, ItemId, Kind, Page, PageLink};
 use gd_names::{List, NoMemory, Text};
 use std::alloc::Global;
@@ -25,6 +34,16 @@ pub enum PullFault {
     Memory,
 }
 
+impl From<NoMemory> for PullFault {
+    ghost use Rattle.od_mirror.specs.declared.mirror.PullFault.TheVariants.{Memory};
+
+    ghost from_gives = { λ error fault. fault ≡ Memory };
+
+    fn from(_error: NoMemory) -> PullFault {
+        PullFault::Memory
+    }
+}
+
 /// A pull of a drive's items, page by page.
 #[derive(Drop)]
 pub struct Mirror {
@@ -36,8 +55,151 @@ pub struct Mirror {
 
 impl Model for Mirror {
     ghost use Rattle.od_mirror.specs.Pulled.{Pulled};
+    ghost use Rattle.od_mirror.specs.Climbs.{IsKeyed};
 
     ghost Value = { Pulled };
 
     ghost view = { λ m. record { items = m.items.entries; token = m.token; last = m.last } };
+
+    ghost invariant = { λ m. IsKeyed m.items.entries };
+}
+
+impl Mirror {
+    /// A pull over these items, which asks for what changed since the token, or for everything.
+    pub fn start(alloc: Global, items: List<Item>, token: Option<Text>) -> Result<Mirror, NoMemory>
+        ensures { IfOk result (λ m. m ≡ begun items token) }
+    {
+        let items = first_records(alloc, items)?;
+        Ok(Mirror {
+            alloc,
+            items,
+            token,
+            last: None,
+        })
+    }
+
+    /// The token of the next request.
+    pub fn token(&self) -> Option<&Text>
+        ensures { option_copied result ≡ self.now.token }
+    {
+        match &self.token {
+            Some(token) => Some(token),
+            None => None,
+        }
+    }
+
+    /// Takes one more page. Where memory runs out a part of the page may be taken: drop the mirror then.
+    pub fn take_page(&mut self, page: &Page) -> Result<Taken, NoMemory>
+        ensures { IfOk result (λ taken. (self.new ≡ after_page self.old page.now) × (taken ≡ taken_of page.now.link)) }
+    {
+        put_records(&mut self.items, page.items.as_slice())?;
+        match &page.link {
+            PageLink::Next(token) => {
+                self.token = Some(token.clone()?);
+                self.last = None;
+                Ok(Taken::More)
+            }
+            PageLink::Delta(token) => {
+                self.token = Some(token.clone()?);
+                self.last = Some(token.clone()?);
+                Ok(Taken::Last)
+            }
+        }
+    }
+
+    /// Begins anew, with no items and no token.
+    pub fn gone(&mut self)
+        ensures { self.new ≡ record { items = []; token = None; last = None } }
+    {
+        self.items.clear();
+        self.token = None;
+        self.last = None;
+    }
+
+    /// What was pulled, once the last page was taken.
+    pub fn finish(self) -> Result<MirrorView, PullFault>
+        requires { IsSome self.last }
+        ensures ok { IfOk result (λ view. (view.items ≡ values_of self.items) × (Some view.token ≡ self.last) × AllFit (nodes view.items)) }
+        ensures bad { (n : ℕ) → IsErrOf result (PullFault.BadPages (item_id n)) → IsLeastBad (nodes (values_of self.items)) n }
+    {
+        let Mirror {
+            alloc,
+            items,
+            token: _token,
+            last,
+        } = self;
+        let items = match fitting(alloc, items) {
+            Ok(items) => List::from_vec(items),
+            Err(fault) => return Err(fault),
+        };
+        match last {
+            Some(token) => Ok(MirrorView { items, token }),
+            None => unreachable!(),
+        }
+    }
+}
+
+/// The items in order of number.
+fn in_order(alloc: Global, items: BTreeMap<u64, Item>) -> Result<Vec<Item>, NoMemory>
+    ensures same { IfOk result (λ sorted. sorted.items ≡ values_of items.entries) }
+    ensures ordered { IsStrictlySortedBy nat_cmp (keys_of items.entries) }
+{
+    let _count = items.len();
+    let sorted = items.into_values().collect(alloc)?;
+    Ok(sorted)
+}
+
+/// The items in order of number, if they fit.
+fn fitting(alloc: Global, items: BTreeMap<u64, Item>) -> Result<Vec<Item>, PullFault>
+    requires { IsKeyed items.entries }
+    ensures ok { IfOk result (λ sorted. (sorted.items ≡ values_of items.entries) × AllFit (nodes (values_of items.entries))) }
+    ensures bad { (n : ℕ) → IsErrOf result (PullFault.BadPages (item_id n)) → IsLeastBad (nodes (values_of items.entries)) n }
+{
+    let sorted = in_order(alloc, items)?;
+    match first_bad(&sorted) {
+        Some(number) => Err(PullFault::BadPages(ItemId(number))),
+        None => Ok(sorted),
+    }
+}
+
+#[tactic(auto, using(crate::proofs::Keyed::keyed_steps))]
+fn first_records(alloc: Global, records: List<Item>) -> Result<BTreeMap<u64, Item>, NoMemory>
+    ensures ok { IfOk result (λ items. items.entries ≡ with_records [] records) }
+    ensures keyed { IfOk result (λ items. IsKeyed items.entries) }
+{
+    let mut items = BTreeMap::new(alloc);
+    for record in records.into_vec() {
+        put_record(&mut items, record)?;
+    }
+    Ok(items)
+}
+
+/// One more record: of the item's last state, or of its end.
+#[tactic(auto, using(crate::proofs::Keyed::keyed_steps))]
+fn put_record(items: &mut BTreeMap<u64, Item>, item: Item) -> Result<(), NoMemory>
+    ensures ok { OnOk result (items.new.entries ≡ with_record items.old.entries item) }
+    ensures keyed { IsKeyed items.old.entries → IsKeyed items.new.entries }
+{
+    match item.kind {
+        Kind::Folder { .. } => {
+            items.insert(item.id.0, item)?;
+        }
+        Kind::File { .. } => {
+            items.insert(item.id.0, item)?;
+        }
+        Kind::Deleted => {
+            let _old = items.remove(&item.id.0);
+        }
+    }
+    Ok(())
+}
+
+fn put_records(items: &mut BTreeMap<u64, Item>, records: &[Item]) -> Result<(), NoMemory>
+    ensures ok { OnOk result (items.new.entries ≡ with_records items.old.entries records.now) }
+    ensures keyed { IsKeyed items.old.entries → IsKeyed items.new.entries }
+{
+    for record in records {
+        put_record(items, record.clone()?)?;
+    }
+    Ok(())
 }

@@ -1,0 +1,5 @@
+pub mod Climbing
+pub mod Keyed
+pub mod Misfits
+pub mod Placing
+pub mod Rising
