@@ -2,8 +2,10 @@
 #![tactic(auto)]
 
 mod climb;
+mod laws;
 mod mirror;
 mod view;
 
+pub use laws::a_feed_gives_the_drive;
 pub use mirror::{Mirror, PullFault, Taken};
 pub use view::MirrorView;
