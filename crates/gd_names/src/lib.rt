@@ -5,6 +5,7 @@ mod bytes;
 mod conflict;
 mod escape;
 mod exact;
+pub mod laws;
 mod list;
 mod memory;
 mod name;
