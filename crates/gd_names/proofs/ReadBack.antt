@@ -32,8 +32,8 @@ byte_read_back b rest small =
     ⊎_elim
     (λ plain. ap (λ xs. decoded (xs ++ rest)) (escaped_itself b plain) ∙ decoded_plain b rest (unreserved_is_not b 37 refl plain))
     (λ other.
-        ap (λ xs. decoded (xs ++ rest)) (escaped_code b other)
-        ∙ (decoded_escape 37 (digit_glyph true high) (digit_glyph true low) rest refl reads_high reads_low ∙ ap (λ x. before_rest x (decoded rest)) value))
+    ap (λ xs. decoded (xs ++ rest)) (escaped_code b other)
+    ∙ (decoded_escape 37 (digit_glyph true high) (digit_glyph true low) rest refl reads_high reads_low ∙ ap (λ x. before_rest x (decoded rest)) value))
     (cases_Bool (is_unreserved b))
 
 name_decoded : (name : List ℕ) → All (λ b. b < 256) name → decoded (escaped name) ≡ Some name
@@ -71,8 +71,8 @@ byte_no_slash b =
     cond_both (is_unreserved b) (b ∷ []) (37 ∷ high ∷ low ∷ []) (All IsNoSlash)
     (λ e. All-cons IsNoSlash b [] (unreserved_is_not b 47 refl e) (All-nil IsNoSlash))
     (λ _.
-        All-cons IsNoSlash 37 (high ∷ low ∷ []) refl
-        (All-cons IsNoSlash high (low ∷ []) (glyph_no_slash (b / 16 % 16) (omega arith)) (All-cons IsNoSlash low [] (glyph_no_slash (b % 16) (omega arith)) (All-nil IsNoSlash))))
+    All-cons IsNoSlash 37 (high ∷ low ∷ []) refl
+    (All-cons IsNoSlash high (low ∷ []) (glyph_no_slash (b / 16 % 16) (omega arith)) (All-cons IsNoSlash low [] (glyph_no_slash (b % 16) (omega arith)) (All-nil IsNoSlash))))
 
 no_slash : (name : List ℕ) → All IsNoSlash (escaped name)
 no_slash [] = All-nil IsNoSlash

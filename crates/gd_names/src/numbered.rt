@@ -1,7 +1,9 @@
-ghost use Rattle.std.specs.Prelude.{◌≡◌, ◌<◌, ◌≤◌, length, drop, slice_index};
-ghost use Rattle.gd_names.specs.Numbered.{stem, extension, file_extension};
+ghost use Rattle.std.specs.Prelude.{◌≡◌, ℕ, ◌<◌, ◌≤◌, true, false, length, drop, slice_index, slice_index_or, IfOk, MatchOption};
+ghost use Rattle.gd_names.specs.Numbered.{stem, extension, file_extension, IsLeastFree};
 
+use crate::memory::NoMemory;
 use crate::text::Text;
+use std::alloc::Global;
 
 /// What stands before the name's extension, and the extension. The extension of a file begins at its last dot that
 /// is not its first byte; a folder has none.
@@ -30,4 +32,27 @@ fn stem_length(name: &[u8]) -> usize
         }
     }
     name.len()
+}
+
+/// The least number from 1 that is not marked.
+pub fn least_free(marked: &[bool]) -> Option<usize>
+    ensures { MatchOption result
+        ((n : ℕ) → 1 ≤ n → n < length marked.now → slice_index_or marked.now n false ≡ true)
+        (λ number. IsLeastFree marked.now number) }
+{
+    for number in 1..marked.len() {
+        if !marked[number] {
+            return Some(number);
+        }
+    }
+    None
+}
+
+/// As many marks, none of them set.
+pub fn unmarked(alloc: Global, count: usize) -> Result<Vec<bool>, NoMemory>
+    ensures len { IfOk result (λ marked. length marked.items ≡ count) }
+    ensures none { IfOk result (λ marked. (n : ℕ) → slice_index_or marked.items n false ≡ false) }
+{
+    let marked = vec![in alloc; false; count]?;
+    Ok(marked)
 }
