@@ -26,7 +26,7 @@ pub use exact::Exact;
 pub use list::List;
 pub use memory::NoMemory;
 pub use name::{NameFault, check_name};
-pub use numbered::{least_free, split_extension, unmarked};
+pub use numbered::{least_free, number_between, numbered_name, split_extension, unmarked};
 pub use path::{Path, PathFault, path_fits};
 pub use sink::{MemorySink, Sink, SinkFault};
 pub use source::{MemorySource, Source, SourceFault};

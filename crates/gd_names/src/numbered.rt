@@ -1,6 +1,10 @@
-ghost use Rattle.std.specs.Prelude.{◌≡◌, ℕ, ◌<◌, ◌≤◌, true, false, length, drop, slice_index, slice_index_or, IfOk, MatchOption};
-ghost use Rattle.gd_names.specs.Numbered.{stem, extension, file_extension, IsLeastFree};
+ghost use Rattle.std.specs.Prelude.{◌≡◌, ℕ, ◌^◌, ◌<◌, ◌≤◌, true, false, ◌++◌, length, drop, nat_eq, slice_index, slice_index_or, IfOk, MatchOption};
+ghost use Rattle.std.specs.Fmt.{decimal};
+ghost use Rattle.gd_names.specs.Escapes.{is_between};
+ghost use Rattle.gd_names.specs.Caseless.{equal_caseless};
+ghost use Rattle.gd_names.specs.Numbered.{stem, extension, file_extension, numbered, IsLeastFree};
 
+use crate::caseless::{strip_caseless_end, strip_caseless_front};
 use crate::memory::NoMemory;
 use crate::text::Text;
 use std::alloc::Global;
@@ -55,4 +59,54 @@ pub fn unmarked(alloc: Global, count: usize) -> Result<Vec<bool>, NoMemory>
 {
     let marked = vec![in alloc; false; count]?;
     Ok(marked)
+}
+
+/// The name with a blank and a number before its extension.
+pub fn numbered_name(
+    alloc: Global,
+    name: &Text,
+    folder: bool,
+    number: usize,
+) -> Result<Text, NoMemory>
+    ensures { IfOk result (λ made. made ≡ numbered name.now folder number) }
+{
+    let (stem, extension) = split_extension(name, folder);
+    let made = format!(in alloc; "{stem} {number}{extension}")?;
+    Ok(Text::from_string(made))
+}
+
+/// The number from 1 that stands between the two ends of the text, as `{}` writes it. The ends are told without case.
+pub fn number_between(text: &[u8], front: &[u8], end: &[u8]) -> Option<u32>
+    ensures { MatchOption result
+        ((n : ℕ) → 1 ≤ n → n < 2 ^ 32 → equal_caseless text.now (front.now ++ decimal n ++ end.now) ≡ false)
+        (λ number. (n : ℕ) → 1 ≤ n → n < 2 ^ 32 → equal_caseless text.now (front.now ++ decimal n ++ end.now) ≡ nat_eq n number) }
+{
+    let left = strip_caseless_end(text, end)?;
+    let digits = strip_caseless_front(left, front)?;
+    number_of(digits)
+}
+
+fn number_of(digits: &[u8]) -> Option<u32>
+    ensures { MatchOption result
+        ((n : ℕ) → 1 ≤ n → n < 2 ^ 32 → equal_caseless digits.now (decimal n) ≡ false)
+        (λ number. (n : ℕ) → 1 ≤ n → n < 2 ^ 32 → equal_caseless digits.now (decimal n) ≡ nat_eq n number) }
+{
+    let text = match str::from_utf8(digits) {
+        Ok(text) => text,
+        Err(_) => return None,
+    };
+    if !begins_with_count(digits) {
+        return None;
+    }
+    match text.parse::<u32>() {
+        Ok(number) => Some(number),
+        Err(_) => None,
+    }
+}
+
+/// Whether the first byte is a digit from 1 to 9.
+fn begins_with_count(digits: &[u8]) -> bool
+    ensures { result ≡ is_between 49 57 (slice_index digits.now 0) }
+{
+    matches!(digits, [b'1'..=b'9', ..])
 }
