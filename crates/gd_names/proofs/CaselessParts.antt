@@ -1,10 +1,10 @@
 -- Names that are equal but for case, part by part.
-use Rattle.std.proofs.Common.{◌≡◌, ℕ, ◌+◌, ◌-◌, ◌<◌, ◌≤◌, Bool, true, false, ◌&&◌, List, [], ◌∷◌, ◌++◌, length, take, drop, map, nat_eq, sym, refl, ap, ◌∙◌, ◌↔◌, arith}
+use Rattle.std.proofs.Common.{◌≡◌, ℕ, Bool, true, false, ◌&&◌, List, [], ◌∷◌, ◌++◌, length, nat_eq, sym, refl, ap, ◌∙◌, arith}
 use Rattle.std.specs.Char.{to_ascii_lowercase}
-use Rattle.std.specs.Cmp.Lexicographic.{pointwise, as_long, bytes_decides}
+use Rattle.std.specs.Cmp.Lexicographic.{as_long}
 use Rattle.std.proofs.Math.Bool.{and_assoc}
-use Rattle.std.proofs.lemmas.Bool.{false_from_ne_true, and_left, and_right, cond-true}
-use Rattle.std.proofs.lemmas.List.{length-append, length-map, take-append-drop, length-drop}
+use Rattle.std.proofs.lemmas.Bool.{false_from_ne_true, and_left, and_right}
+use Rattle.std.proofs.lemmas.List.{length-append, length-map}
 use Rattle.gd_names.specs.Caseless.{lower_case, equal_caseless}
 
 -- names that are equal but for case have one length

@@ -1,13 +1,12 @@
 -- Four bytes against the four digits of a number.
-use Rattle.std.proofs.Common.{◌≡◌, ℕ, ◌+◌, ◌-◌, ◌*◌, ◌/◌, ◌%◌, ◌<◌, ◌≤◌, Bool, true, false, ◌&&◌, List, [], ◌∷◌, length, get_or, nat_eq, sym, refl, ap, ◌∙◌, arith}
+use Rattle.std.proofs.Common.{◌≡◌, ℕ, ◌+◌, ◌-◌, ◌*◌, ◌/◌, ◌%◌, ◌<◌, ◌≤◌, true, false, List, [], ◌∷◌, length, get_or, nat_eq, refl, ap, arith}
 use Rattle.std.specs.Char.{to_ascii_lowercase, is_ascii_digit}
 use Rattle.std.specs.Cmp.{both_ways}
 use Rattle.std.specs.List.{list_all}
 use Rattle.std.proofs.lemmas.Bool.{false_from_ne_true, and_parts, and_from, eqb-true, eq-eqb, leb-true, le-leb, both_ways as both}
 use Rattle.std.proofs.lemmas.Bool.Decides.{nat_tests}
 use Rattle.gd_names.specs.Caseless.{equal_caseless}
-use Rattle.gd_names.specs.Copies.{digit, four_digits}
-use Rattle.gd_names.proofs.CaselessParts.{unequal_lengths}
+use Rattle.gd_names.specs.Copies.{four_digits}
 
 -- a digit has no case
 digit_itself : (x d : ℕ) → d < 10 → nat_eq (to_ascii_lowercase x) (to_ascii_lowercase (48 + d)) ≡ true → x ≡ 48 + d

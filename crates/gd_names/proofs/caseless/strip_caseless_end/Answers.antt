@@ -1,4 +1,4 @@
-use Rattle.std.proofs.Common.{◌+◌, ◌-◌, ◌≤◌, length, sym, arith}
+use Rattle.std.proofs.Common.{sym, arith}
 use Rattle.gd_names.proofs.CaselessParts.{end_is, end_is_not}
 use Rattle.gd_names.proofs.caseless.strip_caseless_end.Goals as goal
 

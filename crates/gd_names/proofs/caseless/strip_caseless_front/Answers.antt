@@ -1,4 +1,4 @@
-use Rattle.std.proofs.Common.{◌+◌, ◌-◌, ◌≤◌, length, sym, arith}
+use Rattle.std.proofs.Common.{sym}
 use Rattle.gd_names.proofs.CaselessParts.{front_is, front_is_not}
 use Rattle.gd_names.proofs.caseless.strip_caseless_front.Goals as goal
 

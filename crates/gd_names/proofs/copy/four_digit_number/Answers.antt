@@ -1,4 +1,4 @@
-use Rattle.std.proofs.Common.{sym, ◌∙◌}
+use Rattle.std.proofs.Common.{sym}
 use Rattle.gd_names.proofs.FourDigits.{not_digits, are_digits}
 use Rattle.gd_names.proofs.copy.four_digit_number.Goals as goal
 

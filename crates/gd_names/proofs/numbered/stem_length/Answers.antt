@@ -1,4 +1,4 @@
-use Rattle.std.proofs.Common.{◌-◌, ◌<◌, ◌≤◌, length, arith}
+use Rattle.std.proofs.Common.{◌-◌, arith}
 use Rattle.gd_names.proofs.Extensions.{extension_at_dot, extension_of_none}
 use Rattle.gd_names.proofs.numbered.stem_length.Goals as goal
 
