@@ -17,10 +17,10 @@ same_bytes : agree_below (should_percent_encode RESERVED) (λ b. not (is_unreser
 unfolding should_percent_encode
 same_bytes = refl
 
-escaped_itself : (b : ℕ) → is_unreserved b ≡ true → escaped_byte b ≡ b ∷ []
+pub escaped_itself : (b : ℕ) → is_unreserved b ≡ true → escaped_byte b ≡ b ∷ []
 escaped_itself b plain = cond-true (is_unreserved b) _ _ plain
 
-escaped_code : (b : ℕ) → is_unreserved b ≡ false → escaped_byte b ≡ 37 ∷ digit_glyph true (b / 16 % 16) ∷ digit_glyph true (b % 16) ∷ []
+pub escaped_code : (b : ℕ) → is_unreserved b ≡ false → escaped_byte b ≡ 37 ∷ digit_glyph true (b / 16 % 16) ∷ digit_glyph true (b % 16) ∷ []
 escaped_code b other = cond-false (is_unreserved b) _ _ other
 
 pub escaped_is : (name : List ℕ) → All (λ b. b < 256) name → percent_encode RESERVED name ≡ escaped name

@@ -21,13 +21,6 @@ pub enum NameFault {
     Reserved,
 }
 
-/// Whether two names are equal once `A` to `Z` are read as `a` to `z`. Takes no memory.
-pub fn same_caseless(a: &Text, b: &Text) -> bool
-    ensures { result ≡ equal_caseless a.now b.now }
-{
-    a.as_str().eq_ignore_ascii_case(b.as_str())
-}
-
 /// Whether an item may have the name; if not, the first cause in the order of `NameFault`. Takes no memory.
 pub fn check_name(name: &Text) -> Result<(), NameFault>
     ensures { MatchResult result (λ _. name_fault name.now ≡ None) (λ fault. name_fault name.now ≡ Some fault) }
