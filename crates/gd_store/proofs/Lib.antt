@@ -3,3 +3,6 @@ pub mod Counts
 pub mod Changes
 pub mod Overwriting
 pub mod Allowed
+pub mod Steps
+pub mod Files
+pub mod Sounds

@@ -2,7 +2,7 @@ ghost use Rattle.std.specs.Prelude.{◌≡◌, ℕ, List, ◌+◌, ◌<◌, ◌^
 ghost use Rattle.gd_item.specs.Ids.{item_id};
 ghost use Rattle.gd_item.specs.Inventory.{Effect, MadeFolder, PutNew, PutOver, after, inventory};
 ghost use Rattle.gd_item.specs.Nodes.{is_folder, path_of, number_at};
-ghost use Rattle.gd_item.specs.Refusals.{is_there, settled_in, is_refuse, settled_path, is_too_long, is_over_quota, made_items, is_met as is_condition_met, live_named, make_folder_refusal, make_folder_effect, put_over_refusal, put_under_refusal, file_effect};
+ghost use Rattle.gd_item.specs.Refusals.{is_there, settled_in, is_refuse, settled_path, is_too_long, is_over_quota, made_items, is_met as is_condition_met, live_named, make_folder_refusal, make_folder_effect, put_over_refusal, put_under_refusal, put_refusal, put_effect, file_effect};
 ghost use Rattle.gd_item.specs.Records.{live_at, record_at, record_with, feed, first_of, last_of};
 ghost use Rattle.std.specs.Option.{option_copied, option_map};
 ghost use Rattle.gd_store.specs.Stands.{put_result};
@@ -14,7 +14,7 @@ use crate::look::{find_names, is_a_folder, is_known, item_at, item_named, overwr
 use crate::path::path_to;
 use crate::record::{content_tag_of, make_record, make_root_record, parent_path_of};
 use gd_conflict::settle;
-use gd_item::{Condition, Item, ItemId, LiveItem, StoreFault, etag_of, matches};
+use gd_item::{Condition, Item, ItemId, LiveItem, Place, StoreFault, etag_of, matches};
 use gd_names::{Bytes, Conflict, List, NoMemory, Path, Settle, Text, check_name, path_fits};
 use std::alloc::Global;
 use std::collections::BTreeMap;
@@ -150,6 +150,50 @@ impl Store {
     {
         let changes = self.changes(position)?;
         first_changes(self.alloc, changes, most)
+    }
+
+    /// Makes a folder.
+    pub fn make_folder(
+        &mut self,
+        parent: ItemId,
+        name: &Text,
+        behaviour: Conflict,
+    ) -> Result<ItemId, StoreFault>
+        ensures answer { (log : List Effect) → Stands self.old log
+            → Answers (make_folder_refusal (inventory log) parent.0 name.now behaviour) result
+            (λ id. (id ≡ item_id (inventory log).next) × Stands self.new (log ++ make_folder_effect (inventory log) parent.0 name.now behaviour ∷ [])) }
+        ensures kept { OnErr result (self.new ≡ self.old) }
+    {
+        self.make(parent.0, name, behaviour)
+    }
+
+    /// Puts a file, and says which item it is and whether it was made. A file that is replaced keeps the spelling of
+    /// its name. Other bytes that count against the limit are those of upload sessions.
+    pub fn put(
+        &mut self,
+        place: &Place,
+        bytes: &[u8],
+        behaviour: Conflict,
+        condition: &Condition,
+        session_bytes: u64,
+    ) -> Result<(ItemId, bool), StoreFault>
+        ensures answer { (log : List Effect) → Stands self.old log
+            → Answers (put_refusal (inventory log) place.now bytes.now behaviour condition.now session_bytes) result
+            (λ put. (put ≡ put_result (inventory log) (put_effect (inventory log) place.now bytes.now behaviour))
+            × Stands self.new (log ++ put_effect (inventory log) place.now bytes.now behaviour ∷ [])) }
+        ensures kept { OnErr result (self.new ≡ self.old) }
+    {
+        match place {
+            Place::Over(id) => self.put_over(id.0, bytes, condition, session_bytes),
+            Place::Under(id, name) => self.put_under(
+                id.0,
+                name,
+                bytes,
+                behaviour,
+                condition,
+                session_bytes,
+            ),
+        }
     }
 
     /// The number at a path.

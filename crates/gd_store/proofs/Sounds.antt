@@ -1,0 +1,89 @@
+-- What a store holds stays a tree.
+use Rattle.std.proofs.Common.{◌≡◌, ℕ, ◌+◌, ◌<◌, ◌≤◌, Bool, true, false, List, [], ◌∷◌, length, None, Some, refl, sym, ap, ◌∙◌, subst, arith}
+use Rattle.std.specs.List.{All}
+use Rattle.std.proofs.lemmas.List.Elements.{All-weaker}
+use Rattle.gd_names.specs.Caseless.{equal_caseless}
+use Rattle.gd_names.specs.declared.conflict.Conflict.{Conflict}
+use Rattle.gd_names.specs.declared.conflict.Sibling.{Sibling}
+use Rattle.gd_names.specs.declared.conflict.Settle.{Settle}
+use Rattle.gd_names.specs.declared.conflict.Settle.TheVariants.{Free, Over, Refuse}
+use Rattle.gd_conflict.proofs.Free.{over-sibling}
+use Rattle.gd_names.specs.Settling.{settled, is_taken}
+
+
+use Rattle.gd_item.specs.Inventory.{Inventory, Effect, after, inventory, PutOver}
+use Rattle.gd_item.specs.Nodes.{is_folder}
+use Rattle.gd_item.specs.Refusals.{settled_in, siblings_in, is_refuse, folder_effect, file_effect, make_folder_refusal, make_folder_effect, put_over_refusal, put_under_refusal}
+use Rattle.gd_item.specs.Sound.{IsWithin, IsItemMap}
+use Rattle.gd_item.specs.Trees.{nodes_of}
+use Rattle.gd_item.specs.declared.condition.Condition.{Condition}
+use Rattle.gd_item.specs.declared.live.LiveItem.{LiveItem}
+use Rattle.gd_item.proofs.Effects.{next-inventory, number-positive}
+use Rattle.gd_item.proofs.Soundness.{sound-folder, sound-file, sound-over}
+use Rattle.gd_store.specs.Stands.{Stands}
+use Rattle.gd_store.proofs.Allowed.{MayMake, may-make, MayPut, may-put, clear, un-not, HasRoom}
+use Rattle.gd_store.proofs.Counts.{siblings-few}
+use Rattle.gd_store.proofs.Files.{file-at}
+
+settled-free : (behaviour : Conflict) (siblings : List Sibling) (name free : List ℕ) (folder : Bool) → length siblings < 100000 → settled behaviour siblings name folder ≡ Free free → is_taken siblings free ≡ false
+settled-free behaviour siblings name free folder few is = ?
+
+-- the numbers of a store that stands for effects have begun
+pub next-begun : (store : Inventory) (log : List Effect) → Stands store log → 1 < store.next
+next-begun store log stands = let P : Inventory → Type 0 = λ held. 1 < held.next in subst P (sym stands.held) (next-inventory log)
+
+pub number-begun : (store : Inventory) (log : List Effect) → Stands store log → 0 < store.number
+number-begun store log stands = let P : Inventory → Type 0 = λ held. 0 < held.number in subst P (sym stands.held) (number-positive log)
+
+few-items : (held : Inventory) (items bytes : ℕ) → HasRoom held items bytes → length held.items < 100000
+few-items held items bytes room = let few : length held.items + 1 + items ≤ 100000 = room.few in omega arith
+
+-- a file that stands in a folder is one by its number
+pub over-file : (held : Inventory) (parent : ℕ) (name : List ℕ) (behaviour : Conflict) (number : ℕ) → IsItemMap held → settled_in held parent name behaviour false ≡ Over number → is_folder number (nodes_of held) ≡ false
+over-file held parent name behaviour number sound is =
+    let over = over-sibling behaviour (siblings_in parent held.items) name false number is in
+    let big : All (λ (x : LiveItem). 1 < x.number) held.items = All-weaker (IsWithin held) (λ x. 1 < x.number) (λ x h. h.above) held.items sound.within in
+    let P : ℕ → Type 0 = λ n. is_folder n (nodes_of held) ≡ false in
+    subst P over.2 (file-at (λ (s : Sibling). equal_caseless s.name name) parent held.items over.0 sound.numbers big over.1 over.3)
+
+-- a folder that is made
+folder-sound : (held : Inventory) (parent : ℕ) (name : List ℕ) (behaviour : Conflict) (settle : Settle) → IsItemMap held → 1 < held.next → 0 < held.number → settled_in held parent name behaviour true ≡ settle
+    → MayMake held parent name settle → IsItemMap (after held (folder_effect parent name settle))
+folder-sound held parent name behaviour (Free free) sound next number is may =
+    sound-folder held parent free sound next number may.there may.folder
+        (settled-free behaviour (siblings_in parent held.items) name free true (siblings-few parent 100000 held.items held.items (siblings_in parent held.items) refl refl (few-items held _ 0 may.room)) is)
+folder-sound held parent name behaviour (Over id) sound next number is may =
+    let over = over-sibling behaviour (siblings_in parent held.items) name true id is in
+    let not_true : true ≡ false = over.4 in
+    absurd cc
+folder-sound held parent name behaviour Refuse sound next number is may = let had : true ≡ false = may.had in absurd cc
+
+pub make-sound : (old new : Inventory) (log : List Effect) (parent : ℕ) (name : List ℕ) (behaviour : Conflict) → Stands old log → None ≡ make_folder_refusal old parent name behaviour
+    → new ≡ after old (make_folder_effect old parent name behaviour) → IsItemMap new
+make-sound old new log parent name behaviour stands allowed is =
+    let may = may-make old parent name behaviour (settled_in old parent name behaviour true) refl allowed in
+    subst IsItemMap (sym is) (folder-sound old parent name behaviour (settled_in old parent name behaviour true) stands.sound (next-begun old log stands) (number-begun old log stands) refl may)
+
+-- a file that is put under a folder
+under-sound : (held : Inventory) (parent : ℕ) (name bytes : List ℕ) (behaviour : Conflict) (others : ℕ) (settle : Settle) → IsItemMap held → 1 < held.next → 0 < held.number → settled_in held parent name behaviour false ≡ settle
+    → MayPut held parent name bytes others settle → IsItemMap (after held (file_effect parent name bytes settle))
+under-sound held parent name bytes behaviour others (Free free) sound next number is may =
+    sound-file held parent free bytes sound next number may.there may.folder
+        (settled-free behaviour (siblings_in parent held.items) name free false (siblings-few parent 100000 held.items held.items (siblings_in parent held.items) refl refl (few-items held _ _ may.room)) is)
+under-sound held parent name bytes behaviour others (Over id) sound next number is may =
+    sound-over held id bytes sound number (over-file held parent name behaviour id sound is)
+under-sound held parent name bytes behaviour others Refuse sound next number is may = let had : true ≡ false = may.had in absurd cc
+
+pub put-under-sound : (old new : Inventory) (log : List Effect) (parent : ℕ) (name bytes : List ℕ) (behaviour : Conflict) (condition : Condition) (others : ℕ) → Stands old log
+    → None ≡ put_under_refusal old parent name bytes behaviour condition others → new ≡ after old (file_effect parent name bytes (settled_in old parent name behaviour false)) → IsItemMap new
+put-under-sound old new log parent name bytes behaviour condition others stands allowed is =
+    let may = may-put old parent name bytes behaviour condition others (settled_in old parent name behaviour false) refl allowed in
+    subst IsItemMap (sym is) (under-sound old parent name bytes behaviour others (settled_in old parent name behaviour false) stands.sound (next-begun old log stands) (number-begun old log stands) refl may)
+
+-- a file that is put over another
+pub put-over-sound : (old new : Inventory) (log : List Effect) (number : ℕ) (bytes : List ℕ) (condition : Condition) (others : ℕ) → Stands old log
+    → None ≡ put_over_refusal old number bytes condition others → new ≡ after old (PutOver number bytes) → IsItemMap new
+put-over-sound old new log number bytes condition others stands allowed is =
+    let a = clear _ _ _ allowed in
+    let b = clear _ _ _ a.1 in
+    subst IsItemMap (sym is) (sound-over old number bytes stands.sound (number-begun old log stands) b.0)
