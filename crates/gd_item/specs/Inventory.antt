@@ -1,6 +1,6 @@
 -- What a drive holds is read off the list of its effects. An effect is one made folder, one put, one move or one
 -- removal; each raises the drive's number by one, and made items get the numbers 2, 3 and so on.
-use Rattle.std.specs.Prelude.{ℕ, ◌+◌, not, cond, List, [], ◌∷◌, ◌++◌, length, map, filter, nat_eq, Some, None}
+use Rattle.std.specs.Prelude.{ℕ, ◌+◌, not, cond, List, [], ◌∷◌, ◌++◌, length, filter, nat_eq, Some, None}
 use Rattle.gd_item.specs.declared.live.LiveItem.{LiveItem}
 
 -- what one accepted step did
@@ -39,15 +39,17 @@ abbrev pub made_file : ℕ → ℕ → ℕ → List ℕ → List ℕ → LiveIte
 made_file change number parent name bytes =
     record { number = number; parent = parent; name = name; bytes = Some bytes; change = change; content = change }
 
--- the item with new bytes, if it has the number
-abbrev pub overwritten : ℕ → ℕ → List ℕ → LiveItem → LiveItem
-overwritten change number bytes item =
-    cond (nat_eq item.number number) (record item { bytes = Some bytes; change = change; content = change }) item
+-- an item with new bytes, and one at a new place
+abbrev pub with_bytes : ℕ → List ℕ → LiveItem → LiveItem
+with_bytes change bytes item = record item { bytes = Some bytes; change = change; content = change }
 
--- the item at its new place, if it has the number
-abbrev pub moved : ℕ → ℕ → ℕ → List ℕ → LiveItem → LiveItem
-moved change number parent name item =
-    cond (nat_eq item.number number) (record item { parent = parent; name = name; change = change }) item
+abbrev pub with_place : ℕ → ℕ → List ℕ → LiveItem → LiveItem
+with_place change parent name item = record item { parent = parent; name = name; change = change }
+
+-- the items, of which the one with this number is changed
+abbrev pub changed : ℕ → (LiveItem → LiveItem) → List LiveItem → List LiveItem
+changed number change [] = []
+changed number change (item ∷ items) = cond (nat_eq item.number number) (change item ∷ items) (item ∷ changed number change items)
 
 -- the tombstones of the items that have the number
 abbrev pub tombstones : ℕ → ℕ → List LiveItem → List Tombstone
@@ -64,9 +66,9 @@ after held (MadeFolder parent name) =
 after held (PutNew parent name bytes) =
     record held { number = held.number + 1; next = held.next + 1; items = held.items ++ made_file (held.number + 1) held.next parent name bytes ∷ []; kept = held.kept + length bytes }
 after held (PutOver number bytes) =
-    record held { number = held.number + 1; items = map (overwritten (held.number + 1) number bytes) held.items; kept = held.kept + length bytes }
+    record held { number = held.number + 1; items = changed number (with_bytes (held.number + 1) bytes) held.items; kept = held.kept + length bytes }
 after held (Moved number parent name) =
-    record held { number = held.number + 1; items = map (moved (held.number + 1) number parent name) held.items }
+    record held { number = held.number + 1; items = changed number (with_place (held.number + 1) parent name) held.items }
 after held (Removed number) =
     record held { number = held.number + 1; items = filter (λ item. not (nat_eq item.number number)) held.items; removed = held.removed ++ tombstones (held.number + 1) number held.items }
 

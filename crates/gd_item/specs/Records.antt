@@ -125,7 +125,7 @@ feed held position removed_after =
 
 -- the first records of a feed, and the change number of the last of them where more follow
 abbrev pub first_of : ℕ → List (ℕ × Item) → List Item
-first_of most changes = values_of (take most changes)
+first_of most changes = take most (values_of changes)
 
 abbrev pub last_of : ℕ → List (ℕ × Item) → Option ℕ
 last_of most changes = cond (nat_lt most (length changes)) (Some (slice_index (keys_of changes) (most - 1))) None

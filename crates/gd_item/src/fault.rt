@@ -1,4 +1,5 @@
 ghost use Rattle.std.specs.Prelude.{◌≡◌};
+ghost use Rattle.gd_item.specs.Faults.{status_of, code_of, code_text};
 
 use gd_names::{Exact, NoMemory};
 use std::alloc::{AllocError, AllocFailed};
@@ -23,6 +24,26 @@ impl Exact for ErrorCode {
     ghost use Rattle.std.proofs.Common.{rules};
 
     ghost exact = { Prim.search rules };
+}
+
+impl ErrorCode {
+    /// The code as the body of an error reply spells it.
+    pub fn as_str(&self) -> &'static str
+        ensures { result.now ≡ code_text self.now }
+    {
+        match self {
+            ErrorCode::InvalidRequest => "invalidRequest",
+            ErrorCode::InvalidRange => "invalidRange",
+            ErrorCode::ItemNotFound => "itemNotFound",
+            ErrorCode::NotSupported => "notSupported",
+            ErrorCode::NameAlreadyExists => "nameAlreadyExists",
+            ErrorCode::ResyncChangesApplyDifferences => "resyncChangesApplyDifferences",
+            ErrorCode::ResyncChangesUploadDifferences => "resyncChangesUploadDifferences",
+            ErrorCode::ResourceModified => "resourceModified",
+            ErrorCode::GeneralException => "generalException",
+            ErrorCode::QuotaLimitReached => "quotaLimitReached",
+        }
+    }
 }
 
 /// Why a store refuses.
@@ -50,6 +71,46 @@ pub enum StoreFault {
     Quota,
     #[error("out of memory")]
     Memory,
+}
+
+impl StoreFault {
+    /// The status of the reply (RFC 9110).
+    pub fn status(self) -> u16
+        ensures { result ≡ status_of self }
+    {
+        match self {
+            StoreFault::NotFound => 404,
+            StoreFault::NameTaken => 409,
+            StoreFault::Modified => 412,
+            StoreFault::Memory => 503,
+            StoreFault::Quota => 507,
+            StoreFault::NotFolder => 400,
+            StoreFault::NotFile => 400,
+            StoreFault::Root => 400,
+            StoreFault::BadName => 400,
+            StoreFault::IntoItself => 400,
+            StoreFault::PathTooLong => 400,
+        }
+    }
+
+    /// The code of the reply. What has no code of its own is an invalid request.
+    pub fn code(self) -> ErrorCode
+        ensures { result ≡ code_of self }
+    {
+        match self {
+            StoreFault::NotFound => ErrorCode::ItemNotFound,
+            StoreFault::NameTaken => ErrorCode::NameAlreadyExists,
+            StoreFault::Modified => ErrorCode::ResourceModified,
+            StoreFault::Memory => ErrorCode::GeneralException,
+            StoreFault::Quota => ErrorCode::QuotaLimitReached,
+            StoreFault::NotFolder => ErrorCode::InvalidRequest,
+            StoreFault::NotFile => ErrorCode::InvalidRequest,
+            StoreFault::Root => ErrorCode::InvalidRequest,
+            StoreFault::BadName => ErrorCode::InvalidRequest,
+            StoreFault::IntoItself => ErrorCode::InvalidRequest,
+            StoreFault::PathTooLong => ErrorCode::InvalidRequest,
+        }
+    }
 }
 
 impl From<NoMemory> for StoreFault {

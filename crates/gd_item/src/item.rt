@@ -1,9 +1,10 @@
-ghost use Rattle.std.specs.Prelude.{◌≡◌};
+ghost use Rattle.std.specs.Prelude.{◌≡◌, IfOk};
+ghost use Rattle.gd_item.specs.Tags.{tag_of, etag_text, ctag_text};
 
 use crate::digest::Digest;
 use crate::id::ItemId;
-use gd_names::{Exact, Text};
-use std::alloc::AllocError;
+use gd_names::{Exact, NoMemory, Text};
+use std::alloc::{AllocError, Global};
 
 /// The text of an entity tag (RFC 9110), without quotes.
 #[derive(Debug, PartialEq, Eq, Drop)]
@@ -19,6 +20,22 @@ impl Clone for Tag {
 
 impl Exact for Tag {
     ghost exact = { λ x y h. h };
+}
+
+/// The `eTag` of an item that this change touched last.
+pub fn etag_of(alloc: Global, change: u64) -> Result<Tag, NoMemory>
+    ensures { IfOk result (λ t. t ≡ tag_of (etag_text change)) }
+{
+    let text = format!(in alloc; "e{change}")?;
+    Ok(Tag(Text::from_string(text)))
+}
+
+/// The `cTag` of a file whose content has this number.
+pub fn ctag_of(alloc: Global, content: u64) -> Result<Tag, NoMemory>
+    ensures { IfOk result (λ t. t ≡ tag_of (ctag_text content)) }
+{
+    let text = format!(in alloc; "c{content}")?;
+    Ok(Tag(Text::from_string(text)))
 }
 
 /// What an item is. A deleted item has an empty name and the size 0.

@@ -1,5 +1,8 @@
+ghost use Rattle.std.specs.Prelude.{◌≡◌};
+
 use crate::id::ItemId;
-use gd_names::{Bytes, Text};
+use gd_names::{Bytes, Exact, Text};
+use std::alloc::AllocError;
 
 /// An item that lives on the drive, as the definitions see it. The root is none of these: it has the number 1.
 #[derive(Debug, Drop)]
@@ -16,9 +19,43 @@ pub struct LiveItem {
     pub content: u64,
 }
 
+impl Clone for LiveItem {
+    ghost is_clone = { λ a b. b ≡ a };
+
+    fn clone(&self) -> Result<LiveItem, AllocError> {
+        Ok(LiveItem {
+            number: self.number,
+            parent: self.parent,
+            name: self.name.clone()?,
+            bytes: self.bytes.clone()?,
+            change: self.change,
+            content: self.content,
+        })
+    }
+}
+
+impl Exact for LiveItem {
+    ghost exact = { λ x y h. h };
+}
+
 /// Where a file is put: over the file of this number, or under this folder with this name.
 #[derive(Debug, PartialEq, Eq, Drop)]
 pub enum Place {
     Over(ItemId),
     Under(ItemId, Text),
+}
+
+impl Clone for Place {
+    ghost is_clone = { λ a b. b ≡ a };
+
+    fn clone(&self) -> Result<Place, AllocError> {
+        match self {
+            Place::Over(id) => Ok(Place::Over(*id)),
+            Place::Under(id, name) => Ok(Place::Under(*id, name.clone()?)),
+        }
+    }
+}
+
+impl Exact for Place {
+    ghost exact = { λ x y h. h };
 }

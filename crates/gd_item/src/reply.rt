@@ -1,7 +1,9 @@
+ghost use Rattle.std.specs.Prelude.{◌≡◌};
+
 use crate::fault::ErrorCode;
 use crate::id::ItemId;
 use crate::item::Item;
-use gd_names::{Bytes, List, Text};
+use gd_names::{Bytes, Exact, List, Text};
 
 /// The link at the end of a page: the token of the next page, or that of the next enumeration.
 #[derive(Debug, PartialEq, Eq, Drop)]
@@ -22,6 +24,12 @@ pub struct Page {
 pub enum Resync {
     ApplyDifferences,
     UploadDifferences,
+}
+
+impl Exact for Resync {
+    ghost use Rattle.std.proofs.Common.{rules};
+
+    ghost exact = { Prim.search rules };
 }
 
 /// What a drive answers.

@@ -3,7 +3,8 @@ ghost use Rattle.gd_item.specs.Requests.{kind_of};
 
 use crate::condition::Condition;
 use crate::id::ItemId;
-use gd_names::{Bytes, Conflict, Path, Text};
+use gd_names::{Bytes, Conflict, Exact, Path, Text};
+use std::alloc::AllocError;
 
 /// How a request names an item: by id, by path from the root, or by parent and name.
 #[derive(Debug, PartialEq, Eq, Drop)]
@@ -11,6 +12,22 @@ pub enum Address {
     Id(ItemId),
     ByPath(Path),
     Child(ItemId, Text),
+}
+
+impl Clone for Address {
+    ghost is_clone = { λ a b. b ≡ a };
+
+    fn clone(&self) -> Result<Address, AllocError> {
+        match self {
+            Address::Id(id) => Ok(Address::Id(*id)),
+            Address::ByPath(path) => Ok(Address::ByPath(path.clone()?)),
+            Address::Child(id, name) => Ok(Address::Child(*id, name.clone()?)),
+        }
+    }
+}
+
+impl Exact for Address {
+    ghost exact = { λ x y h. h };
 }
 
 /// What a client asks of a drive: the driveItem API of Microsoft Graph v1.0, in the calls that this drive answers.
@@ -96,6 +113,12 @@ pub enum RequestKind {
     SessionStatus,
     CancelSession,
     Delta,
+}
+
+impl Exact for RequestKind {
+    ghost use Rattle.std.proofs.Common.{rules};
+
+    ghost exact = { Prim.search rules };
 }
 
 impl Request {

@@ -1,6 +1,6 @@
 -- The escapes of a path segment in a URL (RFC 3986): the unreserved characters stand for themselves, and every
 -- other byte is written as `%` and two hexadecimal digits, in upper case.
-use Rattle.std.specs.Prelude.{ℕ, ◌+◌, ◌*◌, ◌/◌, ◌%◌, Bool, true, not, ◌&&◌, ◌||◌, if◌then◌else◌, List, [], ◌∷◌, nat_eq, nat_le, Option, Some, None}
+use Rattle.std.specs.Prelude.{◌≡◌, ℕ, ◌+◌, ◌*◌, ◌/◌, ◌%◌, ◌<◌, Bool, true, not, ◌&&◌, ◌||◌, if◌then◌else◌, List, [], ◌∷◌, length, nat_eq, nat_le, Option, Some, None, All}
 use Rattle.std.specs.Char.{digit_value, is_digit}
 use Rattle.std.specs.Fmt.{digit_glyph}
 use Rattle.std.specs.List.{list_any, flat_map}
@@ -53,3 +53,9 @@ kept_name (Some name) = if is_segment_name name then Some name else None
 abbrev pub unescaped : List ℕ → Option (List ℕ)
 unescaped [] = None
 unescaped (b ∷ segment) = kept_name (decoded (b ∷ segment))
+
+-- a name that a segment can stand for: bytes, at least one, that may be a name in a path
+pub record IsSegmentName (name : List ℕ) : Type 0 where
+  pub bytes : All (λ b. b < 256) name
+  pub some : 0 < length name
+  pub kept : is_segment_name name ≡ true

@@ -1,6 +1,6 @@
 -- Names made from another name by a number before its extension. The extension of a file begins at its last dot
 -- that is not its first byte; a folder has none.
-use Rattle.std.specs.Prelude.{ℕ, ◌-◌, Bool, if◌then◌else◌, List, [], ◌∷◌, ◌++◌, length, take, codes, nat_eq, Option, Some, None, unwrap_or}
+use Rattle.std.specs.Prelude.{◌≡◌, ℕ, ◌-◌, ◌<◌, ◌≤◌, Bool, true, false, if◌then◌else◌, List, [], ◌∷◌, ◌++◌, length, take, codes, nat_eq, slice_index_or, Option, Some, None, unwrap_or}
 use Rattle.std.specs.Fmt.{decimal}
 
 -- what follows the last dot, with the dot, if there is one; `found` is that of the later bytes
@@ -28,3 +28,10 @@ stem name folder = take (length name - length (extension name folder)) name
 -- the name with a blank and a number before its extension
 abbrev pub numbered : List ℕ → Bool → ℕ → List ℕ
 numbered name folder n = stem name folder ++ codes " " ++ decimal n ++ extension name folder
+
+-- the number is the least from 1 at which the list is false
+pub record IsLeastFree (marked : List Bool) (number : ℕ) : Type 0 where
+  pub from_one : 1 ≤ number
+  pub within : number < length marked
+  pub free : slice_index_or marked number false ≡ false
+  pub least : (n : ℕ) → 1 ≤ n → n < number → slice_index_or marked n false ≡ true

@@ -1,4 +1,4 @@
-ghost use Rattle.std.specs.Prelude.{◌≡◌, ℕ, ◌<◌, ◌≤◌, List, [], length, take, Option, Some, IfOk};
+ghost use Rattle.std.specs.Prelude.{◌≡◌, ℕ, ◌<◌, ◌≤◌, List, length, Option, Some, IfOk};
 
 use crate::bytes::Bytes;
 use crate::list::List;
@@ -47,19 +47,6 @@ fn is_listed(numbers: &List<u64>, number: u64) -> bool {
     numbers.as_slice().contains(&number)
 }
 
-/// Copies the first bytes into the room, at most so many, and says how many.
-fn give(rest: &[u8], room: &mut [u8], most: usize) -> usize
-    requires { 0 < most }
-    ensures within { (result ≤ length room.new) × (result ≤ length rest.now) }
-    ensures copied { take result room.new ≡ take result rest.now }
-    ensures end { result ≡ 0 → 0 < length room.new → rest.now ≡ [] }
-{
-    let count = rest.len().min(most).min(room.len());
-    let (front, _) = rest.split_at(count);
-    room[..count].copy_from_slice(front);
-    count
-}
-
 impl MemorySource {
     ghost use Rattle.gd_names.specs.Memory.{left_of, read_faults_of};
 
@@ -92,8 +79,9 @@ impl Source for MemorySource {
             self.faults = self.faults.saturating_add(1);
             return Err(SourceFault::Failed);
         }
-        let (_, rest) = self.bytes.as_slice().split_at(self.at);
-        let count = give(rest, room, self.piece);
+        let rest = &self.bytes.as_slice()[self.at..];
+        let count = rest.len().min(self.piece).min(room.len());
+        room[..count].copy_from_slice(&rest[..count]);
         self.at += count;
         Ok(count)
     }

@@ -1,2 +1,11 @@
-//! The store.
+//! The items of a drive by number, as a plain list: what its steps do, and why they are refused.
 #![tactic(auto)]
+
+mod feed;
+mod look;
+mod path;
+mod record;
+mod store;
+
+pub use gd_item::StoreFault;
+pub use store::Store;

@@ -1,0 +1,54 @@
+-- What holds of each pair of a list, and of a list in which an item was changed.
+use Rattle.std.proofs.Common.{◌≡◌, ℕ, ◌<◌, suc, true, false, cond, nat_eq, List, [], ◌∷◌, length, map, get_or, sym, ap, ◌∙◌, subst, arith}
+use Rattle.std.specs.List.{All, AllPairs}
+use Rattle.std.proofs.lemmas.List.{length-map, get_or-map}
+use Rattle.std.proofs.lemmas.List.Elements.{All-cons, All-head, All-tail, All-weaker}
+use Rattle.std.proofs.lemmas.List.Kept.{AllPairs-cons}
+use Rattle.gd_item.specs.declared.live.LiveItem.{LiveItem}
+use Rattle.gd_item.specs.Inventory.{changed}
+
+pub AllPairs-nil : {X : Type 0} (R : X → X → Type 0) → AllPairs R []
+AllPairs-nil R i j d i<j j<0 = absurd (omega arith)
+
+pub AllPairs-head : {X : Type 0} (R : X → X → Type 0) (x : X) (xs : List X) → AllPairs R (x ∷ xs) → All (R x) xs
+AllPairs-head R x xs pairs k d lt = pairs 0 (suc k) d (omega arith) (omega arith)
+
+pub AllPairs-tail : {X : Type 0} (R : X → X → Type 0) (x : X) (xs : List X) → AllPairs R (x ∷ xs) → AllPairs R xs
+AllPairs-tail R x xs pairs i j d i<j j<n = pairs (suc i) (suc j) d (omega arith) (omega arith)
+
+-- a fact that looks at the images alone holds of lists with the same images
+pub AllPairs-same_map : {X Y : Type 0} (f : X → Y) (R : Y → Y → Type 0) (xs ys : List X) → map f xs ≡ map f ys → AllPairs (λ x y. R (f x) (f y)) xs → AllPairs (λ x y. R (f x) (f y)) ys
+AllPairs-same_map {X} {Y} f R xs ys same pairs i j d i<j j<n =
+    let long : length xs ≡ length ys = sym (length-map xs f) ∙ ap length same ∙ length-map ys f in
+    let j' : j < length xs = omega arith in
+    let i' : i < length xs = omega arith in
+    let i'' : i < length ys = omega arith in
+    let at = λ (k : ℕ) (here : k < length xs) (there : k < length ys).
+    sym (get_or-map f xs k d (f d) here) ∙ ap (λ zs. get_or zs k (f d)) same ∙ get_or-map f ys k d (f d) there in
+    let P : Y → Type 0 = λ y. R y (f (get_or ys j d)) in
+    let Q : Y → Type 0 = λ y. R (f (get_or xs i d)) y in
+    subst P (at i i' i'') (subst Q (at j j' j<n) (pairs i j d i<j j'))
+
+-- what holds of each item, and of the changed one
+pub All-changed : (P : LiveItem → Type 0) (number : ℕ) (f : LiveItem → LiveItem) (items : List LiveItem) → All P items → All (λ item. P (f item)) items → All P (changed number f items)
+All-changed P number f [] all each = all
+All-changed P number f (item ∷ items) all each =
+    elim (nat_eq item.number number) as (λ b. All P (cond b (f item ∷ items) (item ∷ changed number f items))) [
+      | true ↦ All-cons P (f item) items (All-head (λ x. P (f x)) item items each) (All-tail P item items all)
+      | false ↦ All-cons P item (changed number f items) (All-head P item items all)
+          (All-changed P number f items (All-tail P item items all) (All-tail (λ x. P (f x)) item items each))
+    ]
+
+-- a fact on pairs that each item has with any changed item
+pub AllPairs-changed : (R : LiveItem → LiveItem → Type 0) (number : ℕ) (f : LiveItem → LiveItem) (items : List LiveItem)
+    → All (λ item. (other : LiveItem) → R (f other) item × R item (f other)) items → AllPairs R items → AllPairs R (changed number f items)
+AllPairs-changed R number f [] each pairs = pairs
+AllPairs-changed R number f (item ∷ items) each pairs =
+    let P : LiveItem → Type 0 = λ x. (other : LiveItem) → R (f other) x × R x (f other) in
+    elim (nat_eq item.number number) as (λ b. AllPairs R (cond b (f item ∷ items) (item ∷ changed number f items))) [
+      | true ↦ AllPairs-cons R (f item) items
+          (All-weaker P (R (f item)) (λ x h. (h item).0) items (All-tail P item items each)) (AllPairs-tail R item items pairs)
+      | false ↦ AllPairs-cons R item (changed number f items)
+          (All-changed (R item) number f items (AllPairs-head R item items pairs) (λ k d lt. (All-head P item items each (get_or items k d)).1))
+          (AllPairs-changed R number f items (All-tail P item items each) (AllPairs-tail R item items pairs))
+    ]

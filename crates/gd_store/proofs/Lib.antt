@@ -1,0 +1,5 @@
+pub mod Climbs
+pub mod Counts
+pub mod Changes
+pub mod Overwriting
+pub mod Allowed

@@ -1,0 +1,21 @@
+-- The loop that gives new bytes to the item of a number.
+use Rattle.std.proofs.Common.{◌≡◌, ℕ, ◌<◌, List, length, nat_eq, true, get_or, set, sym, ap, subst, ◌∙◌, eq-eqb, arith}
+use Rattle.gd_item.specs.declared.live.LiveItem.{LiveItem}
+use Rattle.gd_store.proofs.Changes.{SoFar, found}
+use Rattle.gd_item.specs.Inventory.{changed}
+
+-- nothing was written yet, and the change is among the items that are left
+pub record Overwriting (number : ℕ) (f : LiveItem → LiveItem) (whole items : List LiveItem) (i : ℕ) : Type 0 where
+  pub same : items ≡ whole
+  pub so_far : SoFar number f whole i
+
+-- the item is found, and the loop ends
+pub ends : (number : ℕ) (f : LiveItem → LiveItem) (whole items : List LiveItem) (i : ℕ) (item : LiveItem) → Overwriting number f whole items i → i < length whole → item ≡ get_or items i item → (get_or items i item).number ≡ number
+    → set items i (f (get_or items i item)) ≡ changed number f whole
+ends number f whole items i item so lt is at =
+    let test : nat_eq (get_or items i item).number number ≡ true = eq-eqb _ _ at in
+    let P : List LiveItem → Type 0 = λ xs. SoFar number f xs i in
+    let long : length items ≡ length whole = ap length so.same in
+    let within : i < length items = omega arith in
+    let done : set items i (f (get_or items i item)) ≡ changed number f items = found number f items i item within test (subst P (sym so.same) so.so_far) in
+    done ∙ ap (changed number f) so.same

@@ -1,0 +1,34 @@
+-- For which effects a store stands, and what a call of it answers.
+use Rattle.std.specs.Prelude.{◌≡◌, ℕ, ◌+◌, ◌<◌, ◌≤◌, ◌⊎◌, Bool, List, length, Option, Some, None, Result, IfOk, IfErr}
+use Rattle.gd_item.specs.Inventory.{Inventory, Effect, inventory}
+use Rattle.gd_item.specs.Ids.{item_id}
+use Rattle.gd_item.specs.Refusals.{touched, is_made}
+use Rattle.gd_item.specs.Sound.{IsItemMap}
+use Rattle.gd_item.specs.declared.id.ItemId.{ItemId}
+use Rattle.gd_item.specs.declared.fault.StoreFault.{StoreFault}
+use Rattle.gd_item.specs.declared.fault.StoreFault.TheVariants.{NotFound, Memory}
+
+-- the store holds what these effects make, and that is a tree
+pub record Stands (store : Inventory) (effects : List Effect) : Type 0 where
+  pub held : store ≡ inventory effects
+  pub sound : IsItemMap store
+
+-- the call has no refusal and is done, or it has this refusal, or memory was wanting
+pub record Answers {T : Type 0} (refusal : Option StoreFault) (result : Result T StoreFault) (Done : T → Type 0) : Type 0 where
+  pub ok : IfOk result (λ x. (refusal ≡ None) × Done x)
+  pub err : IfErr result (λ fault. (fault ≡ Memory) ⊎ (refusal ≡ Some fault))
+
+-- the bounds within which a store keeps its fields: fewer than 100,000 items beside the root, and no number given
+-- above the drive's own
+pub record IsWithin (items last number : ℕ) : Type 0 where
+  pub few : items < 100000
+  pub given : last ≤ number
+
+-- what a put hands back: the item, and whether it was made
+abbrev pub put_result : Inventory → Effect → ItemId × Bool
+put_result held effect = (item_id (touched held effect), is_made effect)
+
+-- why something is not given that may be there
+abbrev pub missing : {T : Type 0} → Option T → Option StoreFault
+missing None = Some NotFound
+missing (Some x) = None

@@ -1,0 +1,91 @@
+ghost use Rattle.std.specs.Prelude.{◌≡◌, ◌-◌, ◌<◌, cond, nat_lt, length, slice_index, OnOk, IfOk};
+ghost use Rattle.std.specs.Map.{keys_of};
+ghost use Rattle.gd_item.specs.Records.{in_change_order_from, root_change, live_changes, first_of, last_of};
+
+use crate::record::{make_record, make_root_record};
+use gd_item::{Item, LiveItem};
+use gd_names::{List, NoMemory};
+use std::alloc::Global;
+use std::collections::BTreeMap;
+
+/// Puts the root's record among the changes, if it is past the position.
+pub fn put_root(
+    alloc: Global,
+    changes: &mut BTreeMap<u64, Item>,
+    items: &[LiveItem],
+    position: u64,
+) -> Result<(), NoMemory>
+    ensures { OnOk result (changes.new.entries ≡ in_change_order_from changes.old.entries (root_change position items.now)) }
+{
+    if position == 0 {
+        let root = make_root_record(alloc, items)?;
+        changes.insert(1, root)?;
+    }
+    Ok(())
+}
+
+/// Puts the records of the items that are past the position among the changes.
+pub fn put_items(
+    alloc: Global,
+    changes: &mut BTreeMap<u64, Item>,
+    items: &[LiveItem],
+    position: u64,
+) -> Result<(), NoMemory>
+    ensures { OnOk result (changes.new.entries ≡ in_change_order_from changes.old.entries (live_changes position items.now items.now)) }
+{
+    for item in items {
+        if position < item.change {
+            let record = make_record(alloc, items, item)?;
+            changes.insert(item.change, record)?;
+        }
+    }
+    Ok(())
+}
+
+/// The last of the first numbers, at most so many, where more follow.
+fn last_number(numbers: &[u64], most: u64) -> Option<u64>
+    requires { 0 < most }
+    ensures { result ≡ cond (nat_lt most (length numbers.now)) (Some (slice_index numbers.now (most - 1))) None }
+{
+    if most < numbers.len() as u64 {
+        Some(numbers[(most - 1) as usize])
+    } else {
+        None
+    }
+}
+
+/// The first records, at most so many.
+fn first_items(
+    alloc: Global,
+    changes: BTreeMap<u64, Item>,
+    most: u64,
+) -> Result<List<Item>, NoMemory>
+    ensures { IfOk result (λ items. items ≡ first_of most changes.entries) }
+{
+    let mut items: Vec<Item> = changes.into_values().collect(alloc)?;
+    items.truncate(most as usize);
+    Ok(List::from_vec(items))
+}
+
+/// The numbers of all changes, in order.
+fn all_numbers(alloc: Global, changes: &BTreeMap<u64, Item>) -> Result<Vec<u64>, NoMemory>
+    ensures { IfOk result (λ numbers. numbers.items ≡ keys_of changes.now.entries) }
+{
+    let numbers: Vec<u64> = changes.keys().copied().collect(alloc)?;
+    Ok(numbers)
+}
+
+/// The first changes, at most so many, and the change number of the last of them where more follow.
+pub fn first_changes(
+    alloc: Global,
+    changes: BTreeMap<u64, Item>,
+    most: u64,
+) -> Result<(List<Item>, Option<u64>), NoMemory>
+    requires { 0 < most }
+    ensures { IfOk result (λ found. (found.0 ≡ first_of most changes.entries) × (found.1 ≡ last_of most changes.entries)) }
+{
+    let numbers = all_numbers(alloc, &changes)?;
+    let last = last_number(numbers.as_slice(), most);
+    let items = first_items(alloc, changes, most)?;
+    Ok((items, last))
+}

@@ -1,0 +1,47 @@
+ghost use Rattle.std.specs.Prelude.{◌≡◌, map, IfOk};
+ghost use Rattle.gd_item.specs.Nodes.{live_node, path_within, path_of};
+
+use crate::look::{is_a_folder, item_at};
+use gd_item::LiveItem;
+use gd_names::{List, NoMemory, Path, Text};
+use std::alloc::Global;
+
+/// The names down to a number, over at most so many folders, if they lead up to the root.
+fn names_within(
+    alloc: Global,
+    items: &[LiveItem],
+    number: u64,
+    steps: usize,
+) -> Result<Option<List<Text>>, NoMemory>
+    ensures { IfOk result (λ found. found ≡ path_within steps (map live_node items.now) number) }
+{
+    if number == 1 {
+        return Ok(Some(List::new(alloc)));
+    }
+    if steps == 0 {
+        return Ok(None);
+    }
+    let Some(item) = item_at(items, number) else {
+        return Ok(None);
+    };
+    if !is_a_folder(items, item.parent) {
+        return Ok(None);
+    }
+    match names_within(alloc, items, item.parent, steps - 1)? {
+        None => Ok(None),
+        Some(mut names) => {
+            names.push(item.name.clone()?)?;
+            Ok(Some(names))
+        }
+    }
+}
+
+/// The path of a number, if its folders lead up to the root.
+pub fn path_to(alloc: Global, items: &[LiveItem], number: u64) -> Result<Option<Path>, NoMemory>
+    ensures { IfOk result (λ found. found ≡ path_of (map live_node items.now) number) }
+{
+    match names_within(alloc, items, number, items.len())? {
+        None => Ok(None),
+        Some(names) => Ok(Some(Path::from_names(names))),
+    }
+}

@@ -1,0 +1,523 @@
+ghost use Rattle.std.specs.Prelude.{◌≡◌, ℕ, List, ◌+◌, ◌<◌, ◌^◌, ◌++◌, [], ◌∷◌, length, map, is_some, true, false, Some, None, IfOk, OnErr};
+ghost use Rattle.gd_item.specs.Ids.{item_id};
+ghost use Rattle.gd_item.specs.Inventory.{Effect, MadeFolder, PutNew, PutOver, after, inventory};
+ghost use Rattle.gd_item.specs.Nodes.{is_folder, path_of, number_at};
+ghost use Rattle.gd_item.specs.Refusals.{is_there, settled_in, is_refuse, settled_path, is_too_long, is_over_quota, made_items, is_met as is_condition_met, live_named, make_folder_refusal, make_folder_effect, put_over_refusal, put_under_refusal, file_effect};
+ghost use Rattle.gd_item.specs.Records.{live_at, record_at, record_with, feed, first_of, last_of};
+ghost use Rattle.std.specs.Option.{option_copied, option_map};
+ghost use Rattle.gd_store.specs.Stands.{put_result};
+ghost use Rattle.gd_item.specs.Trees.{nodes_of};
+ghost use Rattle.gd_names.specs.Names.{name_fault};
+
+use crate::feed::{first_changes, put_items, put_root};
+use crate::look::{find_names, is_a_folder, is_known, item_at, item_named, overwrite, siblings};
+use crate::path::path_to;
+use crate::record::{content_tag_of, make_record, make_root_record, parent_path_of};
+use gd_conflict::settle;
+use gd_item::{Condition, Item, ItemId, LiveItem, StoreFault, etag_of, matches};
+use gd_names::{Bytes, Conflict, List, NoMemory, Path, Settle, Text, check_name, path_fits};
+use std::alloc::Global;
+use std::collections::BTreeMap;
+use std::marker::Model;
+
+/// How many items may live, the root among them.
+const MOST_ITEMS: usize = 100_000;
+
+/// How many bytes may be kept, those of replaced files among them.
+const MOST_BYTES: u64 = 536_870_912;
+
+/// A drive's items in a plain list.
+#[derive(Debug, Drop)]
+pub struct Store {
+    alloc: Global,
+    items: Vec<LiveItem>,
+    number: u64,
+    last: u64,
+    kept: u64,
+}
+
+impl Model for Store {
+    ghost use Rattle.std.specs.Prelude.{[], ◌+◌, length};
+    ghost use Rattle.gd_item.specs.Inventory.{Inventory};
+
+    ghost Value = { Inventory };
+
+    ghost use Rattle.gd_store.specs.Stands.{IsWithin};
+
+    ghost view = { λ s. record { number = s.number; next = s.last + 1; items = s.items.items; removed = []; kept = s.kept } };
+
+    ghost invariant = { λ s. IsWithin (length s.items.items) s.last s.number };
+}
+
+/// Whether the name is none that an item may have.
+fn is_bad_name(name: &Text) -> bool
+    ensures { result ≡ is_some (name_fault name.now) }
+{
+    match check_name(name) {
+        Ok(()) => false,
+        Err(_) => true,
+    }
+}
+
+/// Whether a path, if there is one, is longer than any item's may be.
+fn is_long(path: &Option<Path>) -> bool
+    ensures { result ≡ is_too_long path.now }
+{
+    match path {
+        None => false,
+        Some(path) => !path_fits(path),
+    }
+}
+
+/// Whether the name is not to be had.
+fn is_refused(settle: &Settle) -> bool
+    ensures { result ≡ is_refuse settle.now }
+{
+    match settle {
+        Settle::Free(_) => false,
+        Settle::Over(_) => false,
+        Settle::Refuse => true,
+    }
+}
+
+/// How many items are made by what is settled so.
+fn made_by(settle: &Settle) -> usize
+    ensures count { result ≡ made_items settle.now }
+    ensures few { result < 2 }
+{
+    match settle {
+        Settle::Free(_) => 1,
+        Settle::Over(_) => 0,
+        Settle::Refuse => 0,
+    }
+}
+
+impl Store {
+    ghost use Rattle.gd_store.specs.Stands.{Stands, Answers, missing};
+
+    /// A drive with its root alone.
+    pub fn new(alloc: Global) -> Result<Store, NoMemory>
+        ensures { IfOk result (λ store. Stands store []) }
+    {
+        Ok(Store {
+            alloc,
+            items: Vec::new(alloc),
+            number: 1,
+            last: 1,
+            kept: 0,
+        })
+    }
+
+    /// The drive's change number: 1, and one more for each effect. Takes no memory.
+    pub fn number(&self) -> u64
+        ensures { (log : List Effect) → Stands self.now log → result ≡ length log + 1 }
+    {
+        self.number
+    }
+
+    /// The item at a path. Takes no memory.
+    pub fn by_path(&self, path: &Path) -> Option<ItemId>
+        ensures { (log : List Effect) → Stands self.now log → result ≡ option_map item_id (number_at path.now (nodes_of (inventory log))) }
+    {
+        match self.find(path) {
+            Some(number) => Some(ItemId(number)),
+            None => None,
+        }
+    }
+
+    /// The record of an item, with the path of its folder if it is asked for.
+    pub fn get(&self, id: ItemId, with_path: bool) -> Result<Item, StoreFault>
+        ensures { (log : List Effect) → Stands self.now log
+            → Answers (missing (record_at id.0 with_path (inventory log))) result (λ item. record_at id.0 with_path (inventory log) ≡ Some item) }
+    {
+        match self.find_record(id.0, with_path)? {
+            Some(item) => Ok(item),
+            None => Err(StoreFault::NotFound),
+        }
+    }
+
+    /// The feed past a position, at most so many records of it, and the change number of the last one where more
+    /// follow.
+    pub fn changed_after(
+        &self,
+        position: u64,
+        removed_after: u64,
+        most: u64,
+    ) -> Result<(List<Item>, Option<u64>), NoMemory>
+        requires { 0 < most }
+        ensures { IfOk result (λ found. (log : List Effect) → Stands self.now log
+            → (found.0 ≡ first_of most (feed (inventory log) position removed_after)) × (found.1 ≡ last_of most (feed (inventory log) position removed_after))) }
+    {
+        let changes = self.changes(position)?;
+        first_changes(self.alloc, changes, most)
+    }
+
+    /// The number at a path.
+    fn find(&self, path: &Path) -> Option<u64>
+        ensures { result ≡ number_at path.now (nodes_of self.now) }
+    {
+        find_names(self.items.as_slice(), path.names())
+    }
+
+    /// The record of a number.
+    fn find_record(&self, number: u64, with_path: bool) -> Result<Option<Item>, NoMemory>
+        ensures { IfOk result (λ found. found ≡ record_at number with_path self.now) }
+    {
+        if number == 1 {
+            let root = make_root_record(self.alloc, self.items.as_slice())?;
+            return Ok(Some(root));
+        }
+        match item_at(self.items.as_slice(), number) {
+            None => Ok(None),
+            Some(item) => {
+                let made = self.record_of(item, with_path)?;
+                Ok(Some(made))
+            }
+        }
+    }
+
+    /// The record of a living item.
+    fn record_of(&self, item: &LiveItem, with_path: bool) -> Result<Item, NoMemory>
+        ensures { IfOk result (λ made. made ≡ record_with with_path self.now item.now) }
+    {
+        let mut made = make_record(self.alloc, self.items.as_slice(), item)?;
+        if with_path {
+            made.parent_path = parent_path_of(self.alloc, self.items.as_slice(), item.parent)?;
+        }
+        Ok(made)
+    }
+
+    /// The records past a position, by change number.
+    fn changes(&self, position: u64) -> Result<BTreeMap<u64, Item>, NoMemory>
+        ensures { IfOk result (λ changes. (n : ℕ) → changes.entries ≡ feed self.now position n) }
+    {
+        let mut changes = BTreeMap::new(self.alloc);
+        put_root(self.alloc, &mut changes, self.items.as_slice(), position)?;
+        put_items(self.alloc, &mut changes, self.items.as_slice(), position)?;
+        Ok(changes)
+    }
+
+    /// How a name is settled in a folder.
+    fn settle(
+        &self,
+        parent: u64,
+        name: &Text,
+        behaviour: Conflict,
+        folder: bool,
+    ) -> Result<Settle, NoMemory>
+        ensures { IfOk result (λ found. found ≡ settled_in self.now parent name.now behaviour folder) }
+    {
+        let siblings = siblings(self.alloc, self.items.as_slice(), parent)?;
+        settle(self.alloc, behaviour, &siblings, name, folder)
+    }
+
+    /// Whether an item that is settled so would get a path that is longer than any item's may be.
+    fn would_be_long(&self, parent: u64, settle: &Settle) -> Result<bool, NoMemory>
+        ensures { IfOk result (λ long. long ≡ is_too_long (settled_path self.now parent settle.now)) }
+    {
+        match settle {
+            Settle::Free(name) => match path_to(self.alloc, self.items.as_slice(), parent)? {
+                None => Ok(false),
+                Some(path) => {
+                    let mut names = path.into_names();
+                    names.push(name.clone()?)?;
+                    Ok(!path_fits(&Path::from_names(names)))
+                }
+            },
+            Settle::Over(number) => {
+                let path = path_to(self.alloc, self.items.as_slice(), *number)?;
+                Ok(is_long(&path))
+            }
+            Settle::Refuse => Ok(false),
+        }
+    }
+
+    /// Whether the drive would pass one of its limits by so many items, bytes, and bytes of upload sessions.
+    fn is_full(&self, items: usize, bytes: u64, others: u64) -> bool
+        requires { items < 2 }
+        ensures { result ≡ is_over_quota self.now items (bytes + others) }
+    {
+        if self.items.len() + 1 + items > MOST_ITEMS {
+            return true;
+        }
+        if self.number == u64::MAX {
+            return true;
+        }
+        self.kept.saturating_add(bytes).saturating_add(others) > MOST_BYTES
+    }
+
+    /// Why a folder is not made.
+    fn folder_refusal(
+        &self,
+        parent: u64,
+        name: &Text,
+        behaviour: Conflict,
+        settle: &Settle,
+        is_long: bool,
+    ) -> Option<StoreFault>
+        requires settle { settle.now ≡ settled_in self.now parent name.now behaviour true }
+        requires long { is_long ≡ is_too_long (settled_path self.now parent settle.now) }
+        ensures { result ≡ make_folder_refusal self.now parent name.now behaviour }
+    {
+        if !is_known(self.items.as_slice(), parent) {
+            Some(StoreFault::NotFound)
+        } else if !is_a_folder(self.items.as_slice(), parent) {
+            Some(StoreFault::NotFolder)
+        } else if is_bad_name(name) {
+            Some(StoreFault::BadName)
+        } else if is_refused(settle) {
+            Some(StoreFault::NameTaken)
+        } else if is_long {
+            Some(StoreFault::PathTooLong)
+        } else if self.is_full(made_by(settle), 0, 0) {
+            Some(StoreFault::Quota)
+        } else {
+            None
+        }
+    }
+
+    /// Adds a folder.
+    fn add_folder(&mut self, parent: u64, name: Text) -> Result<ItemId, NoMemory>
+        requires room { length self.old.items + 1 < 100000 }
+        requires number { self.old.number + 1 < 2 ^ 64 }
+        ensures ok { IfOk result (λ id. (id ≡ item_id self.old.next) × (self.new ≡ after self.old (MadeFolder parent name))) }
+        ensures err { OnErr result (self.new ≡ self.old) }
+    {
+        let item = LiveItem {
+            number: self.last + 1,
+            parent,
+            name,
+            bytes: None,
+            change: self.number + 1,
+            content: 0,
+        };
+        self.items.push(item)?;
+        self.number += 1;
+        self.last += 1;
+        Ok(ItemId(self.last))
+    }
+
+    /// Adds a file.
+    fn add_file(&mut self, parent: u64, name: Text, bytes: Bytes) -> Result<ItemId, NoMemory>
+        requires room { length self.old.items + 1 < 100000 }
+        requires number { self.old.number + 1 < 2 ^ 64 }
+        requires kept { self.old.kept + length bytes < 2 ^ 64 }
+        ensures ok { IfOk result (λ id. (id ≡ item_id self.old.next) × (self.new ≡ after self.old (PutNew parent name bytes))) }
+        ensures err { OnErr result (self.new ≡ self.old) }
+    {
+        let length = bytes.as_slice().len() as u64;
+        let item = LiveItem {
+            number: self.last + 1,
+            parent,
+            name,
+            bytes: Some(bytes),
+            change: self.number + 1,
+            content: self.number + 1,
+        };
+        self.items.push(item)?;
+        self.number += 1;
+        self.last += 1;
+        self.kept += length;
+        Ok(ItemId(self.last))
+    }
+
+    /// Gives a file new bytes.
+    fn put_bytes(&mut self, number: u64, bytes: Bytes)
+        requires number { self.old.number + 1 < 2 ^ 64 }
+        requires kept { self.old.kept + length bytes < 2 ^ 64 }
+        ensures { self.new ≡ after self.old (PutOver number bytes) }
+    {
+        let length = bytes.as_slice().len() as u64;
+        overwrite(self.items.as_mut_slice(), number, self.number + 1, bytes);
+        self.number += 1;
+        self.kept += length;
+    }
+
+    /// A folder that is made, or why it is not.
+    fn make(&mut self, parent: u64, name: &Text, behaviour: Conflict) -> Result<ItemId, StoreFault>
+        ensures answer { Answers (make_folder_refusal self.old parent name.now behaviour) result
+            (λ id. (id ≡ item_id self.old.next) × (self.new ≡ after self.old (make_folder_effect self.old parent name.now behaviour))) }
+        ensures kept { OnErr result (self.new ≡ self.old) }
+    {
+        let settle = self.settle(parent, name, behaviour, true)?;
+        let is_long = self.would_be_long(parent, &settle)?;
+        match self.folder_refusal(parent, name, behaviour, &settle, is_long) {
+            Some(fault) => return Err(fault),
+            None => {}
+        }
+        match settle {
+            Settle::Free(free) => {
+                let id = self.add_folder(parent, free)?;
+                Ok(id)
+            }
+            Settle::Over(_) => Err(StoreFault::NameTaken),
+            Settle::Refuse => Err(StoreFault::NameTaken),
+        }
+    }
+
+    /// Whether an item that may be there meets a condition.
+    fn meets(&self, condition: &Condition, item: Option<&LiveItem>) -> Result<bool, NoMemory>
+        ensures { IfOk result (λ met. met ≡ is_condition_met condition.now (option_copied item.entry)) }
+    {
+        if *condition == Condition::Free {
+            return Ok(true);
+        }
+        let Some(item) = item else {
+            return Ok(false);
+        };
+        let etag = etag_of(self.alloc, item.change)?;
+        let ctag = content_tag_of(self.alloc, item)?;
+        Ok(matches(condition, &etag, ctag.as_ref()))
+    }
+
+    /// Whether the living item of a number meets a condition.
+    fn meets_at(&self, number: u64, condition: &Condition) -> Result<bool, NoMemory>
+        ensures { IfOk result (λ met. met ≡ is_condition_met condition.now (live_at number self.now.items)) }
+    {
+        let item = item_at(self.items.as_slice(), number);
+        self.meets(condition, item)
+    }
+
+    /// Whether the item of a folder that has the name meets a condition.
+    fn meets_under(&self, parent: u64, name: &Text, condition: &Condition) -> Result<bool, NoMemory>
+        ensures { IfOk result (λ met. met ≡ is_condition_met condition.now (live_named parent name.now self.now.items)) }
+    {
+        let item = item_named(self.items.as_slice(), parent, name);
+        self.meets(condition, item)
+    }
+
+    /// Whether the item of a number has a path that is longer than any item's may be.
+    fn is_long_at(&self, number: u64) -> Result<bool, NoMemory>
+        ensures { IfOk result (λ long. long ≡ is_too_long (path_of (nodes_of self.now) number)) }
+    {
+        let path = path_to(self.alloc, self.items.as_slice(), number)?;
+        Ok(is_long(&path))
+    }
+
+    /// Why a file is not put over the item of a number.
+    fn over_refusal(
+        &self,
+        number: u64,
+        bytes: &[u8],
+        condition: &Condition,
+        others: u64,
+        is_met: bool,
+        is_long: bool,
+    ) -> Option<StoreFault>
+        requires met { is_met ≡ is_condition_met condition.now (live_at number self.now.items) }
+        requires long { is_long ≡ is_too_long (path_of (nodes_of self.now) number) }
+        ensures { result ≡ put_over_refusal self.now number bytes.now condition.now others }
+    {
+        if !is_known(self.items.as_slice(), number) {
+            Some(StoreFault::NotFound)
+        } else if is_a_folder(self.items.as_slice(), number) {
+            Some(StoreFault::NotFile)
+        } else if !is_met {
+            Some(StoreFault::Modified)
+        } else if is_long {
+            Some(StoreFault::PathTooLong)
+        } else if self.is_full(0, bytes.len() as u64, others) {
+            Some(StoreFault::Quota)
+        } else {
+            None
+        }
+    }
+
+    /// Why a file is not put under a folder.
+    fn under_refusal(
+        &self,
+        parent: u64,
+        name: &Text,
+        bytes: &[u8],
+        behaviour: Conflict,
+        condition: &Condition,
+        others: u64,
+        settle: &Settle,
+        is_met: bool,
+        is_long: bool,
+    ) -> Option<StoreFault>
+        requires settle { settle.now ≡ settled_in self.now parent name.now behaviour false }
+        requires met { is_met ≡ is_condition_met condition.now (live_named parent name.now self.now.items) }
+        requires long { is_long ≡ is_too_long (settled_path self.now parent settle.now) }
+        ensures { result ≡ put_under_refusal self.now parent name.now bytes.now behaviour condition.now others }
+    {
+        if !is_known(self.items.as_slice(), parent) {
+            Some(StoreFault::NotFound)
+        } else if !is_a_folder(self.items.as_slice(), parent) {
+            Some(StoreFault::NotFolder)
+        } else if is_bad_name(name) {
+            Some(StoreFault::BadName)
+        } else if !is_met {
+            Some(StoreFault::Modified)
+        } else if is_refused(settle) {
+            Some(StoreFault::NameTaken)
+        } else if is_long {
+            Some(StoreFault::PathTooLong)
+        } else if self.is_full(made_by(settle), bytes.len() as u64, others) {
+            Some(StoreFault::Quota)
+        } else {
+            None
+        }
+    }
+
+    /// Puts a file over the item of a number, or says why not.
+    fn put_over(
+        &mut self,
+        number: u64,
+        bytes: &[u8],
+        condition: &Condition,
+        others: u64,
+    ) -> Result<(ItemId, bool), StoreFault>
+        ensures answer { Answers (put_over_refusal self.old number bytes.now condition.now others) result
+            (λ put. (put ≡ (item_id number, false)) × (self.new ≡ after self.old (PutOver number bytes.now))) }
+        ensures kept { OnErr result (self.new ≡ self.old) }
+    {
+        let is_met = self.meets_at(number, condition)?;
+        let is_long = self.is_long_at(number)?;
+        match self.over_refusal(number, bytes, condition, others, is_met, is_long) {
+            Some(fault) => return Err(fault),
+            None => {}
+        }
+        let copy = Bytes::from_slice(self.alloc, bytes)?;
+        self.put_bytes(number, copy);
+        Ok((ItemId(number), false))
+    }
+
+    /// Puts a file under a folder, or says why not.
+    fn put_under(
+        &mut self,
+        parent: u64,
+        name: &Text,
+        bytes: &[u8],
+        behaviour: Conflict,
+        condition: &Condition,
+        others: u64,
+    ) -> Result<(ItemId, bool), StoreFault>
+        ensures answer { Answers (put_under_refusal self.old parent name.now bytes.now behaviour condition.now others) result
+            (λ put. (put ≡ put_result self.old (file_effect parent name.now bytes.now (settled_in self.old parent name.now behaviour false)))
+            × (self.new ≡ after self.old (file_effect parent name.now bytes.now (settled_in self.old parent name.now behaviour false)))) }
+        ensures kept { OnErr result (self.new ≡ self.old) }
+    {
+        let settle = self.settle(parent, name, behaviour, false)?;
+        let is_met = self.meets_under(parent, name, condition)?;
+        let is_long = self.would_be_long(parent, &settle)?;
+        match self.under_refusal(
+            parent, name, bytes, behaviour, condition, others, &settle, is_met, is_long,
+        ) {
+            Some(fault) => return Err(fault),
+            None => {}
+        }
+        let copy = Bytes::from_slice(self.alloc, bytes)?;
+        match settle {
+            Settle::Free(free) => {
+                let id = self.add_file(parent, free, copy)?;
+                Ok((id, true))
+            }
+            Settle::Over(number) => {
+                self.put_bytes(number, copy);
+                Ok((ItemId(number), false))
+            }
+            Settle::Refuse => Err(StoreFault::NameTaken),
+        }
+    }
+}
