@@ -6,12 +6,12 @@ use Rattle.std.proofs.lemmas.List.{append-nil}
 use Rattle.std.specs.List.{AllPairs, AllByRecursion}
 use Rattle.std.specs.Map.{values_of}
 use Rattle.gd_item.specs.Inventory.{Inventory}
-use Rattle.gd_item.specs.Records.{record_of, root_record, kind_at, in_change_order_from, live_changes, root_change, removals, feed}
+use Rattle.gd_item.specs.Records.{record_of, root_record, kind_at, in_change_order_from, live_changes, removals, feed}
 use Rattle.gd_item.specs.Sound.{IsItemMap, IsWithin}
 use Rattle.gd_item.specs.declared.item.Item.{Item}
 use Rattle.gd_item.specs.declared.live.LiveItem.{LiveItem}
 use Rattle.od_mirror.specs.Pulled.{with_kind, with_record, with_records}
-use Rattle.od_mirror.proofs.Inserted.{put, put-less, put-equal, put-greater, put-commutes, put-last, all-put}
+use Rattle.od_mirror.proofs.Inserted.{put, put-less, put-greater, put-commutes, put-last, all-put}
 use Rattle.od_mirror.proofs.Pairs.{each, each-later, later-pairs, each-so, each-both, each-append, each-always}
 
 -- two records may change places
@@ -59,9 +59,9 @@ pub any-order : (es placed entries : List (ℕ × Item)) → AllByRecursion (λ 
 any-order es placed [] apart pairs = refl
 any-order es placed (e ∷ entries) apart pairs =
     any-order es (put placed e.0 e.1) entries
-        (each-both (λ f. AllByRecursion (AreApart f) placed) (λ f. AreApart f e) (λ f. AllByRecursion (AreApart f) (put placed e.0 e.1))
-            (λ f all one. all-put (AreApart f) e.0 e.1 placed all one) entries apart.1 pairs.0)
-        pairs.1
+    (each-both (λ f. AllByRecursion (AreApart f) placed) (λ f. AreApart f e) (λ f. AllByRecursion (AreApart f) (put placed e.0 e.1))
+    (λ f all one. all-put (AreApart f) e.0 e.1 placed all one) entries apart.1 pairs.0)
+    pairs.1
     ∙ ap (λ more. with_records more (values_of entries)) (one-placed es e placed apart.0)
 
 -- ---- the records of a drive
@@ -124,12 +124,13 @@ entries-apart P all (item ∷ items) each_one = (each_one.0, entries-apart P all
 all-apart : (all items : List LiveItem) → AllPairs (λ (x y : LiveItem). x.number < y.number) items → AllPairs (λ (x y : LiveItem). x.change ≡ y.change → ⊥) items
     → AllApart (by_change all items)
 all-apart all [] numbers changes = tt
-all-apart all (item ∷ items) numbers changes =
-    (entries-apart (λ f. AreApart f (item.change, record_of all item)) all items
-        (each-both (λ (y : LiveItem). item.number < y.number) (λ (y : LiveItem). item.change ≡ y.change → ⊥) (λ (y : LiveItem). AreApart (y.change, record_of all y) (item.change, record_of all item))
-            (λ y rise differ. items-apart all item y rise differ) items
-            (each-later (λ (x y : LiveItem). x.number < y.number) item items numbers) (each-later (λ (x y : LiveItem). x.change ≡ y.change → ⊥) item items changes)),
-     all-apart all items (later-pairs (λ (x y : LiveItem). x.number < y.number) item items numbers) (later-pairs (λ (x y : LiveItem). x.change ≡ y.change → ⊥) item items changes))
+all-apart all (item ∷ items) numbers changes = (
+  entries-apart (λ f. AreApart f (item.change, record_of all item)) all items
+      (each-both (λ (y : LiveItem). item.number < y.number) (λ (y : LiveItem). item.change ≡ y.change → ⊥) (λ (y : LiveItem). AreApart (y.change, record_of all y) (item.change, record_of all item))
+      (λ y rise differ. items-apart all item y rise differ) items
+      (each-later (λ (x y : LiveItem). x.number < y.number) item items numbers) (each-later (λ (x y : LiveItem). x.change ≡ y.change → ⊥) item items changes)),
+  all-apart all items (later-pairs (λ (x y : LiveItem). x.number < y.number) item items numbers) (later-pairs (λ (x y : LiveItem). x.change ≡ y.change → ⊥) item items changes),
+)
 
 -- ---- items whose numbers rise stand in their order
 in-order-at : (all : List LiveItem) (es : List (ℕ × Item)) (item : LiveItem) → AllByRecursion (λ (e : ℕ × Item). e.0 < item.number) es
@@ -142,11 +143,11 @@ in-order all [] es above numbers = sym (append-nil es)
 in-order all (item ∷ items) es above numbers =
     ap (λ more. with_records more (map (record_of all) items)) (in-order-at all es item above.0)
     ∙ in-order all items (es ++ (item.number, record_of all item) ∷ [])
-        (each-both (λ (y : LiveItem). AllByRecursion (λ (e : ℕ × Item). e.0 < y.number) es) (λ (y : LiveItem). item.number < y.number)
-            (λ (y : LiveItem). AllByRecursion (λ (e : ℕ × Item). e.0 < y.number) (es ++ (item.number, record_of all item) ∷ []))
-            (λ y low rise. each-append (λ (e : ℕ × Item). e.0 < y.number) es ((item.number, record_of all item) ∷ []) low (rise, tt)) items above.1
-            (each-later (λ (x y : LiveItem). x.number < y.number) item items numbers))
-        (later-pairs (λ (x y : LiveItem). x.number < y.number) item items numbers)
+    (each-both (λ (y : LiveItem). AllByRecursion (λ (e : ℕ × Item). e.0 < y.number) es) (λ (y : LiveItem). item.number < y.number)
+    (λ (y : LiveItem). AllByRecursion (λ (e : ℕ × Item). e.0 < y.number) (es ++ (item.number, record_of all item) ∷ []))
+    (λ y low rise. each-append (λ (e : ℕ × Item). e.0 < y.number) es ((item.number, record_of all item) ∷ []) low (rise, tt)) items above.1
+    (each-later (λ (x y : LiveItem). x.number < y.number) item items numbers))
+    (later-pairs (λ (x y : LiveItem). x.number < y.number) item items numbers)
     ∙ append_assoc es ((item.number, record_of all item) ∷ []) (by_number all items)
 
 -- ---- the whole feed
@@ -162,25 +163,26 @@ module _ (held : Inventory) (sound : IsItemMap held) where
   feed-entries removed_after none =
       ap (λ (removed : List (ℕ × Item)). in_change_order_from [] ((1, root_record held.items) ∷ (live_changes 0 held.items held.items ++ removed))) none
       ∙ ap (λ (living : List (ℕ × Item)). in_change_order_from [] ((1, root_record held.items) ∷ living))
-        (append-nil (live_changes 0 held.items held.items) ∙ all-changes held.items held.items after-root)
+      (append-nil (live_changes 0 held.items held.items) ∙ all-changes held.items held.items after-root)
 
   feed-apart : AllApart ((1, root_record held.items) ∷ by_change held.items held.items)
-  feed-apart =
-      (entries-apart (λ f. AreApart f (1, root_record held.items)) held.items held.items
-          (each-both (λ (item : LiveItem). 1 < item.number) (λ (item : LiveItem). 1 < item.change) (λ (item : LiveItem). AreApart (item.change, record_of held.items item) (1, root_record held.items))
-              (λ item above late. root-apart held.items item above late) held.items above-root after-root),
-       all-apart held.items held.items sound.numbers sound.changes)
+  feed-apart = (
+    entries-apart (λ f. AreApart f (1, root_record held.items)) held.items held.items
+        (each-both (λ (item : LiveItem). 1 < item.number) (λ (item : LiveItem). 1 < item.change) (λ (item : LiveItem). AreApart (item.change, record_of held.items item) (1, root_record held.items))
+        (λ item above late. root-apart held.items item above late) held.items above-root after-root),
+    all-apart held.items held.items sound.numbers sound.changes,
+  )
 
   pub feed-from-start : (removed_after : ℕ) → removals 0 removed_after held.removed ≡ []
       → values_of (with_records [] (values_of (feed held 0 removed_after))) ≡ root_record held.items ∷ map (record_of held.items) held.items
   feed-from-start removed_after none =
       ap (λ entries. values_of (with_records [] (values_of entries))) (feed-entries removed_after none)
       ∙ ap values_of
-        (any-order [] [] ((1, root_record held.items) ∷ by_change held.items held.items)
-            (each-always (λ f. Unit {0}) (λ f. tt) ((1, root_record held.items) ∷ by_change held.items held.items)) feed-apart
-        ∙ ap (λ records. with_records ((1, root_record held.items) ∷ []) records) (values-by_change held.items held.items)
-        ∙ in-order held.items held.items ((1, root_record held.items) ∷ [])
-            (each-so (λ (item : LiveItem). 1 < item.number) (λ (item : LiveItem). AllByRecursion (λ (e : ℕ × Item). e.0 < item.number) ((1, root_record held.items) ∷ []))
-                (λ item above. (above, tt)) held.items above-root)
-            sound.numbers)
+      (any-order [] [] ((1, root_record held.items) ∷ by_change held.items held.items)
+      (each-always (λ f. Unit {0}) (λ f. tt) ((1, root_record held.items) ∷ by_change held.items held.items)) feed-apart
+      ∙ ap (λ records. with_records ((1, root_record held.items) ∷ []) records) (values-by_change held.items held.items)
+      ∙ in-order held.items held.items ((1, root_record held.items) ∷ [])
+      (each-so (λ (item : LiveItem). 1 < item.number) (λ (item : LiveItem). AllByRecursion (λ (e : ℕ × Item). e.0 < item.number) ((1, root_record held.items) ∷ []))
+      (λ item above. (above, tt)) held.items above-root)
+      sound.numbers)
       ∙ ap (λ records. root_record held.items ∷ records) (values-by_number held.items held.items)

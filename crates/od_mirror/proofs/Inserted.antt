@@ -26,30 +26,35 @@ module _ {X : Type 0} where
   first-below : (k j : ℕ) (v w : X) (e : ℕ × X) (es : List (ℕ × X)) → k < j → k < e.0 → put (put (e ∷ es) j w) k v ≡ (k, v) ∷ put (e ∷ es) j w
   first-below k j v w e es low under =
       elim (cases_order j e.0) [
-          inl same ↦ rw (put-equal j w e es same) (put-less k v (e.0, w) es under)
+        | inl same ↦ rw (put-equal j w e es same) (put-less k v (e.0, w) es under)
         | inr apart ↦ elim apart [
-            inl less ↦ rw (put-less j w e es less) (put-less k v (j, w) (e ∷ es) low)
-          | inr more ↦ rw (put-greater j w e es more) (put-less k v e (put es j w) under) ] ]
+          | inl less ↦ rw (put-less j w e es less) (put-less k v (j, w) (e ∷ es) low)
+          | inr more ↦ rw (put-greater j w e es more) (put-less k v e (put es j w) under)
+        ]
+      ]
 
   commute-below : (k j : ℕ) (v w : X) → k < j → (es : List (ℕ × X)) → put (put es k v) j w ≡ put (put es j w) k v
   commute-below k j v w low [] = put-greater j w (k, v) [] low ∙ sym (put-less k v (j, w) [] low)
   commute-below k j v w low (e ∷ es) =
       elim (cases_order k e.0) [
-          inl same ↦
+        | inl same ↦
             let past : e.0 < j = omega arith in
             rw (put-equal k v e es same, put-greater j w (e.0, v) es past, put-greater j w e es past) (sym (put-equal k v e (put es j w) same))
         | inr apart ↦ elim apart [
-            inl under ↦ rw (put-less k v e es under, put-greater j w (k, v) (e ∷ es) low) (sym (first-below k j v w e es low under))
+          | inl under ↦ rw (put-less k v e es under, put-greater j w (k, v) (e ∷ es) low) (sym (first-below k j v w e es low under))
           | inr above ↦
               let past : e.0 < j = omega arith in
               rw (put-greater k v e es above, put-greater j w e es past, put-greater j w e (put es k v) past, put-greater k v e (put es j w) above)
-              (ap (λ rest. e ∷ rest) (commute-below k j v w low es)) ] ]
+              (ap (λ rest. e ∷ rest) (commute-below k j v w low es))
+        ]
+      ]
 
   pub put-commutes : (k j : ℕ) (v w : X) → (k ≡ j → ⊥) → (es : List (ℕ × X)) → put (put es k v) j w ≡ put (put es j w) k v
   put-commutes k j v w apart es =
       elim (cases_order k j) [
-          inl same ↦ absurd (apart same)
-        | inr differ ↦ elim differ [ inl low ↦ commute-below k j v w low es | inr high ↦ sym (commute-below j k w v high es) ] ]
+        | inl same ↦ absurd (apart same)
+        | inr differ ↦ elim differ [ inl low ↦ commute-below k j v w low es | inr high ↦ sym (commute-below j k w v high es) ]
+      ]
 
   -- a key above all goes to the end
   pub put-last : (k : ℕ) (v : X) (es : List (ℕ × X)) → AllByRecursion (λ (e : ℕ × X). e.0 < k) es → put es k v ≡ es ++ (k, v) ∷ []

@@ -49,4 +49,9 @@ pub with_records-push : (items : List (ℕ × Item)) (records : List Item) (item
 with_records-push items [] item = refl
 with_records-push items (first ∷ records) item = with_records-push (with_record items first) records item
 
+-- records taken in two parts
+pub with_records-append : (items : List (ℕ × Item)) (records more : List Item) → with_records items (records ++ more) ≡ with_records (with_records items records) more
+with_records-append items [] more = refl
+with_records-append items (first ∷ records) more = with_records-append (with_record items first) records more
+
 pub ruleset keyed_steps = (keyed-record, keyed-insert, keyed-remove, with_records-push)

@@ -2,7 +2,10 @@ pub mod Climbing
 pub mod Feed
 pub mod Inserted
 pub mod Keyed
+pub mod Mapped
 pub mod Misfits
 pub mod Pairs
 pub mod Placing
 pub mod Rising
+pub mod Rooted
+pub mod Standing

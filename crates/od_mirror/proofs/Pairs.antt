@@ -1,5 +1,5 @@
 -- Facts on each element of a list, and on each and every later one, from place by place to element by element.
-use Rattle.std.proofs.Common.{◌≡◌, ℕ, suc, ◌<◌, List, [], ◌∷◌, ◌++◌, length, get_or, map, refl, arith}
+use Rattle.std.proofs.Common.{suc, List, [], ◌∷◌, ◌++◌, arith}
 use Rattle.std.proofs.lemmas.List.Elements.{All-head, All-tail}
 use Rattle.std.specs.List.{All, AllPairs, AllByRecursion}
 
