@@ -8,12 +8,13 @@ use Rattle.std.proofs.lemmas.List.Quantifiers.{all_pairs_push}
 use Rattle.gd_names.specs.Settling.{is_taken}
 use Rattle.gd_names.specs.Caseless.{equal_caseless}
 use Rattle.gd_item.specs.declared.live.LiveItem.{LiveItem}
-use Rattle.gd_item.specs.Inventory.{Inventory, MadeFolder, PutNew, PutOver, new_drive, made_folder, made_file, with_bytes, changed, after}
+use Rattle.gd_item.specs.Inventory.{Inventory, Effect, MadeFolder, PutNew, PutOver, new_drive, made_folder, made_file, with_bytes, changed, after, inventory}
 use Rattle.gd_item.specs.Nodes.{Node, live_node, node_at, is_folder, is_some_folder, is_twin}
 use Rattle.gd_item.specs.Refusals.{is_there, siblings_in}
 use Rattle.gd_item.specs.Sound.{IsWithin, IsItemMap}
 use Rattle.gd_item.specs.Trees.{nodes_of}
 use Rattle.gd_item.proofs.Adding.{IsLed, led-push, has_name_in, apart}
+use Rattle.gd_item.proofs.Effects.{inventory-snoc, next-inventory, number-positive}
 use Rattle.gd_item.proofs.Pairs.{AllPairs-nil, AllPairs-same_map, AllPairs-changed, All-changed}
 
 pub sound-new : IsItemMap new_drive
@@ -112,3 +113,21 @@ sound-over held number bytes sound positive file =
       led = subst IsLed same sound.led;
       told_apart = AllPairs-same_map live_node (λ (x y : Node). is_twin y x ≡ false) held.items (changed number f held.items) same sound.told_apart;
     }
+
+-- the same of what a drive holds whose effects are these
+pub sound-folder-log : (effects : List Effect) (parent : ℕ) (name : List ℕ) → IsItemMap (inventory effects) → is_there parent (nodes_of (inventory effects)) ≡ true
+    → is_folder parent (nodes_of (inventory effects)) ≡ true → is_taken (siblings_in parent (inventory effects).items) name ≡ false → IsItemMap (inventory (effects ++ MadeFolder parent name ∷ []))
+sound-folder-log effects parent name sound there folder free =
+    subst IsItemMap (sym (inventory-snoc effects (MadeFolder parent name)))
+    (sound-folder (inventory effects) parent name sound (next-inventory effects) (number-positive effects) there folder free)
+
+pub sound-file-log : (effects : List Effect) (parent : ℕ) (name bytes : List ℕ) → IsItemMap (inventory effects) → is_there parent (nodes_of (inventory effects)) ≡ true
+    → is_folder parent (nodes_of (inventory effects)) ≡ true → is_taken (siblings_in parent (inventory effects).items) name ≡ false → IsItemMap (inventory (effects ++ PutNew parent name bytes ∷ []))
+sound-file-log effects parent name bytes sound there folder free =
+    subst IsItemMap (sym (inventory-snoc effects (PutNew parent name bytes)))
+    (sound-file (inventory effects) parent name bytes sound (next-inventory effects) (number-positive effects) there folder free)
+
+pub sound-over-log : (effects : List Effect) (number : ℕ) (bytes : List ℕ) → IsItemMap (inventory effects) → is_folder number (nodes_of (inventory effects)) ≡ false
+    → IsItemMap (inventory (effects ++ PutOver number bytes ∷ []))
+sound-over-log effects number bytes sound file =
+    subst IsItemMap (sym (inventory-snoc effects (PutOver number bytes))) (sound-over (inventory effects) number bytes sound (number-positive effects) file)

@@ -1,6 +1,7 @@
 pub mod Faults
 pub mod Ids
 pub mod Inventory
+pub mod Logs
 pub mod Nodes
 pub mod Records
 pub mod Refusals

@@ -5,21 +5,28 @@ mod condition;
 mod digest;
 mod fault;
 mod id;
+mod instances;
 mod item;
 mod laws;
 mod live;
 mod reply;
 mod request;
+mod tree_laws;
 
 pub use condition::{Condition, matches};
 pub use digest::{Digest, digest_of};
 pub use fault::{ErrorCode, StoreFault};
 pub use id::ItemId;
+pub use instances::{file_replaced, folder_refusals, folder_removed, taken_name_put};
 pub use item::{Item, Kind, Tag, ctag_of, etag_of};
 pub use laws::ids_read_back;
 pub use live::{LiveItem, Place};
 pub use reply::{Page, PageLink, Reply, Resync};
 pub use request::{Address, Request, RequestKind};
+pub use tree_laws::{
+    made_folder_keeps_tree, new_bytes_keep_tree, new_drive_is_tree, new_file_keeps_tree,
+    numbers_count_effects,
+};
 
 #[cfg(test)]
 mod tests;
