@@ -6,6 +6,8 @@ ghost use Rattle.std.specs.Option.{option_copied};
 ghost use Rattle.gd_names.specs.Settling.{sibling_named, settled};
 
 mod rename;
+#[cfg(test)]
+mod tests;
 
 use crate::rename::renamed;
 pub use gd_names::{Conflict, Settle, Sibling};

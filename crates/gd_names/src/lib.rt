@@ -15,6 +15,8 @@ mod numbered;
 mod path;
 mod sink;
 mod source;
+#[cfg(test)]
+mod tests;
 mod text;
 
 pub use bytes::Bytes;
