@@ -179,10 +179,10 @@ renamed-free siblings name folder few =
     (λ is.
     let last : number ≡ 1 + length siblings = last_if_taken name folder siblings siblings 1 is in
     let each : (q : ℕ) → q < length siblings + 1 → is_taken siblings (numbered name folder (q + 1)) ≡ true = λ q below.
-        ⊎_elim
-        (λ same. subst (λ (k : ℕ). is_taken siblings (numbered name folder k) ≡ true) (sym same) is)
-        (λ apart. number-least siblings name folder (q + 1) (omega arith) (omega arith))
-        (cases_eq (q + 1) number) in
+    ⊎_elim
+    (λ same. subst (λ (k : ℕ). is_taken siblings (numbered name folder k) ≡ true) (sym same) is)
+    (λ apart. number-least siblings name folder (q + 1) (omega arith) (omega arith))
+    (cases_eq (q + 1) number) in
     let fit : length siblings + 1 ≤ length siblings = taken_fit name folder (length siblings + 1) siblings (omega arith) each in
     omega arith)
 
