@@ -3,6 +3,7 @@ pub mod Ids
 pub mod Inventory
 pub mod Logs
 pub mod Nodes
+pub mod Places
 pub mod Records
 pub mod Refusals
 pub mod Requests

@@ -7,10 +7,7 @@ use Rattle.gd_names.specs.declared.conflict.Conflict.{Conflict}
 use Rattle.gd_names.specs.declared.conflict.Sibling.{Sibling}
 use Rattle.gd_names.specs.declared.conflict.Settle.{Settle}
 use Rattle.gd_names.specs.declared.conflict.Settle.TheVariants.{Free, Over, Refuse}
-use Rattle.gd_conflict.proofs.Free.{over-sibling}
-use Rattle.gd_names.specs.Settling.{settled, is_taken}
-
-
+use Rattle.gd_conflict.proofs.Free.{settled-free, over-sibling}
 use Rattle.gd_item.specs.Inventory.{Inventory, Effect, after, inventory, PutOver}
 use Rattle.gd_item.specs.Nodes.{is_folder}
 use Rattle.gd_item.specs.Refusals.{settled_in, siblings_in, is_refuse, folder_effect, file_effect, make_folder_refusal, make_folder_effect, put_over_refusal, put_under_refusal}
@@ -24,9 +21,6 @@ use Rattle.gd_store.specs.Stands.{Stands}
 use Rattle.gd_store.proofs.Allowed.{MayMake, may-make, MayPut, may-put, clear, un-not, HasRoom}
 use Rattle.gd_store.proofs.Counts.{siblings-few}
 use Rattle.gd_store.proofs.Files.{file-at}
-
-settled-free : (behaviour : Conflict) (siblings : List Sibling) (name free : List ℕ) (folder : Bool) → length siblings < 100000 → settled behaviour siblings name folder ≡ Free free → is_taken siblings free ≡ false
-settled-free behaviour siblings name free folder few is = ?
 
 -- the numbers of a store that stands for effects have begun
 pub next-begun : (store : Inventory) (log : List Effect) → Stands store log → 1 < store.next

@@ -1,13 +1,12 @@
-// A library with one function.
+//! The commands of the client: what `odsync replay` does.
 #![tactic(auto)]
 
-ghost use Rattle.std.specs.Prelude.{◌≡◌};
-ghost use Rattle.od_cli.specs.Echo.{echo_of};
+mod fault;
+mod line;
+mod read;
+mod script;
+mod status;
 
-// The `ensures` clause is the contract: what `echo` returns is `echo_of` of its argument, a definition
-// in `specs/Echo.antt`, which a caller's clause can cite too.
-pub fn echo(x: usize) -> usize
-    ensures { result ≡ echo_of x }
-{
-    x
-}
+pub use line::Line;
+pub use script::ScriptFault;
+pub use status::ReplayStatus;

@@ -1,0 +1,53 @@
+-- What a replay does: from the bytes that its source has left to those that its sink was given.
+use Rattle.std.specs.Prelude.{◌≡◌, ℕ, ◌<◌, ◌≤◌, List, [], ◌∷◌, ◌++◌, length, take, codes, string_bytes, nat_eq, Bool, false, Option, Some, Result, Ok, Err}
+use Rattle.std.specs.Cmp.Lexicographic.{pointwise}
+use Rattle.std.specs.declared.alloc.Global.{Global}
+use Rattle.std.specs.String.{String}
+use Rattle.std.specs.Fmt.{decimal}
+use Rattle.od_cli.specs.declared.line.Line.{Line}
+use Rattle.od_cli.specs.Played.{played}
+use Rattle.od_cli.specs.Script.{script}
+
+-- how many bytes a script may have
+abbrev pub most_bytes : ℕ
+most_bytes = 8388608
+
+-- the line that is written for a line that is no script line
+abbrev pub bad_line_text : ℕ → List ℕ
+bad_line_text number = codes "line " ++ decimal number ++ codes " is not a script line\n"
+
+-- what is to be written for what a text spells
+abbrev pub output_of : Result (List Line) ℕ → List ℕ
+output_of (Ok lines) = played lines
+output_of (Err number) = bad_line_text number
+
+abbrev pub output : List ℕ → List ℕ
+output bytes = output_of (script bytes)
+
+-- the text was a script, read to its end and not too long, and what was written is what it plays
+pub record Replays (text before after : Option (List ℕ)) : Type 0 where
+  pub told : (bytes written : List ℕ) → text ≡ Some bytes → before ≡ Some written
+      → (lines : List Line) × (script bytes ≡ Ok lines) × (length bytes ≤ most_bytes) × (after ≡ Some (written ++ played lines))
+
+-- the line of this number is the first that is no script line, the text was not too long, and that was written
+pub record TellsBadLine (number : ℕ) (text before after : Option (List ℕ)) : Type 0 where
+  pub told : (bytes written : List ℕ) → text ≡ Some bytes → before ≡ Some written
+      → (script bytes ≡ Err number) × (length bytes ≤ most_bytes) × (after ≡ Some (written ++ bad_line_text number))
+
+-- nothing was written
+pub record WritesNothing (before after : Option (List ℕ)) : Type 0 where
+  pub written : (written : List ℕ) → before ≡ Some written → after ≡ Some written
+
+-- the text was too long
+pub record IsTooLong (text : Option (List ℕ)) : Type 0 where
+  pub told : (bytes : List ℕ) → text ≡ Some bytes → most_bytes < length bytes
+
+-- a first part of what was to be written was written
+pub record WritesPart (text before after : Option (List ℕ)) : Type 0 where
+  pub told : (bytes written : List ℕ) → text ≡ Some bytes → before ≡ Some written → (n : ℕ) × (after ≡ Some (written ++ take n (output bytes)))
+
+-- whether the words give the command: the one word `replay`
+abbrev pub is_replay : List (String Global) → Bool
+is_replay [] = false
+is_replay (word ∷ []) = pointwise nat_eq (string_bytes word) (codes "replay")
+is_replay (word ∷ next ∷ words) = false
