@@ -1,12 +1,19 @@
 //! The commands of the client: what `odsync replay` does.
 #![tactic(auto)]
 
+mod address;
 mod fault;
 mod line;
+mod output;
+mod play;
+mod print;
+mod pull;
 mod read;
+mod replay;
 mod script;
 mod status;
 
 pub use line::Line;
-pub use script::ScriptFault;
+pub use replay::replay_main;
+pub use script::{ScriptFault, read_script};
 pub use status::ReplayStatus;

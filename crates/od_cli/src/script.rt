@@ -1,8 +1,9 @@
-ghost use Rattle.std.specs.Prelude.{◌≡◌, Some, None, IfOk, IsErrOf};
-ghost use Rattle.od_cli.specs.Script.{script_path};
+ghost use Rattle.std.specs.Prelude.{◌≡◌, ℕ, Ok, Err, Some, None, IfOk, IsErrOf};
+ghost use Rattle.od_cli.specs.Script.{script, script_path};
 
 use crate::fault::LineFault;
-use gd_names::{NoMemory, Path, PathFault, path_fits};
+use crate::line::Line;
+use gd_names::{List, NoMemory, Path, PathFault, path_fits};
 use std::alloc::Global;
 
 /// Why a text is no script.
@@ -42,4 +43,12 @@ fn read_path(alloc: Global, word: &[u8]) -> Result<Path, LineFault>
         Err(PathFault::BadPath) => Err(LineFault::Bad),
         Err(PathFault::Memory) => Err(LineFault::Memory),
     }
+}
+
+/// A stand-in.
+pub fn read_script(_alloc: Global, _text: &[u8]) -> Result<List<Line>, ScriptFault>
+    ensures ok { IfOk result (λ lines. script _text.now ≡ Ok lines) }
+    ensures bad_line { (n : ℕ) → IsErrOf result (ScriptFault.BadLine n) → script _text.now ≡ Err n }
+{
+    Err(ScriptFault::Memory)
 }
