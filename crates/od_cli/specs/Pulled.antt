@@ -21,11 +21,15 @@ kind_line path size Deleted = []
 abbrev pub item_line : List (List ℕ) × Item → List ℕ
 item_line (path, item) = kind_line path item.size item.kind
 
+-- the token of an enumeration that began and ended at this number, in the drive's first epoch
+abbrev pub token_text : ℕ → List ℕ
+token_text number = codes "t1." ++ decimal number ++ codes "." ++ decimal number
+
 -- the one page of a fresh enumeration
 abbrev pub whole_page : Inventory → Page
 whole_page held = record {
   items = values_of (feed held 0 held.number);
-  link = link.Delta (codes "t1." ++ decimal held.number ++ codes "." ++ decimal held.number);
+  link = link.Delta (token_text held.number);
 }
 
 -- the store is that of a drive with some effects

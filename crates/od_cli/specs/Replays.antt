@@ -1,8 +1,7 @@
 -- What a replay does: from the bytes that its source has left to those that its sink was given.
-use Rattle.std.specs.Prelude.{◌≡◌, ℕ, ◌<◌, ◌≤◌, List, [], ◌∷◌, ◌++◌, length, take, codes, string_bytes, nat_eq, Bool, false, Option, Some, None, Result, Ok, Err}
+use Rattle.std.specs.Prelude.{◌≡◌, ℕ, ◌<◌, ◌≤◌, List, [], ◌∷◌, ◌++◌, length, take, codes, string_bytes, String, nat_eq, Bool, false, Option, Some, None, Result, Ok, Err}
 use Rattle.std.specs.Cmp.Lexicographic.{pointwise}
-use Rattle.std.specs.declared.alloc.Global.{Global}
-use Rattle.std.specs.String.{String}
+use Rattle.std.specs.Global.{Global}
 use Rattle.std.specs.Fmt.{decimal}
 use Rattle.od_cli.specs.declared.line.Line.{Line}
 use Rattle.od_cli.specs.Played.{played}

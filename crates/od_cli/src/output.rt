@@ -22,7 +22,10 @@ pub fn make_output(alloc: Global, text: &[u8]) -> Result<Output, NoMemory>
     match read_script(alloc, text) {
         Ok(lines) => {
             let text = play(alloc, lines.as_slice())?;
-            Ok(Output { text, bad_line: None })
+            Ok(Output {
+                text,
+                bad_line: None,
+            })
         }
         Err(ScriptFault::BadLine(number)) => {
             let mut text = Bytes::new(alloc);

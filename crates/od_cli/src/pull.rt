@@ -2,7 +2,7 @@ ghost use Rattle.std.specs.Prelude.{◌≡◌, ◌++◌, List, OnOk, IfOk};
 ghost use Rattle.gd_item.specs.Inventory.{Effect, inventory};
 ghost use Rattle.gd_store.specs.Stands.{Stands};
 ghost use Rattle.od_cli.specs.Played.{pull_lines};
-ghost use Rattle.od_cli.specs.Pulled.{whole_page, IsDrive};
+ghost use Rattle.od_cli.specs.Pulled.{whole_page, token_text, IsDrive};
 ghost use Rattle.od_mirror.specs.Drive.{records_of};
 
 use crate::print::{print_items, print_position};
@@ -11,6 +11,14 @@ use gd_names::{Bytes, List, NoMemory, Text};
 use gd_store::Store;
 use od_mirror::{Mirror, MirrorView, PullFault};
 use std::alloc::Global;
+
+/// The token of an enumeration that began and ended at this number.
+fn make_token(alloc: Global, number: u64) -> Result<Text, NoMemory>
+    ensures { IfOk result (λ token. token ≡ token_text number) }
+{
+    let token = format!(in alloc; "t1.{number}.{number}")?;
+    Ok(Text::from_string(token))
+}
 
 /// The one page of a fresh enumeration: all living items, and the drive's number in its link.
 fn make_page(alloc: Global, store: &Store) -> Result<Page, NoMemory>
@@ -22,10 +30,10 @@ fn make_page(alloc: Global, store: &Store) -> Result<Page, NoMemory>
         // More records than a list can hold.
         return Err(NoMemory);
     }
-    let token = format!(in alloc; "t1.{number}.{number}")?;
+    let token = make_token(alloc, number)?;
     Ok(Page {
         items,
-        link: PageLink::Delta(Text::from_string(token)),
+        link: PageLink::Delta(token),
     })
 }
 
@@ -51,6 +59,8 @@ pub fn print_pull(alloc: Global, store: &Store, out: &mut Bytes) -> Result<(), N
 {
     let view = pull_view(alloc, store)?;
     let paths = view.paths(alloc)?;
-    print_position(alloc, out, store.number())?;
-    print_items(alloc, out, paths.as_slice())
+    let number = store.number();
+    print_position(alloc, out, number)?;
+    print_items(alloc, out, paths.as_slice())?;
+    Ok(())
 }

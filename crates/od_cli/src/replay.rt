@@ -1,4 +1,4 @@
-ghost use Rattle.std.specs.Prelude.{◌≡◌, ℕ, ⊥, true, false, OnOk, IsErrOf};
+ghost use Rattle.std.specs.Prelude.{◌≡◌, ℕ, false, OnOk, IsErrOf};
 ghost use Rattle.gd_names.specs.Streams.{Rose};
 ghost use Rattle.od_cli.specs.Replays.{is_replay, Replays, TellsBadLine, IsTooLong, WritesNothing, WritesPart};
 
@@ -19,7 +19,11 @@ fn is_command(words: &[String]) -> bool
 }
 
 /// Reads a script, plays it, and writes what it prints.
-fn replay<I: Source, S: Sink>(alloc: Global, source: &mut I, sink: &mut S) -> Result<(), ReplayStatus>
+fn replay<I: Source, S: Sink>(
+    alloc: Global,
+    source: &mut I,
+    sink: &mut S,
+) -> Result<(), ReplayStatus>
     ensures replayed { OnOk result (Replays (I.left source.old) (S.written sink.old) (S.written sink.new)) }
     ensures not_replayed { IsErrOf result ReplayStatus.Replayed → ⊥ }
     ensures not_usage { IsErrOf result ReplayStatus.Usage → ⊥ }
@@ -40,7 +44,12 @@ fn replay<I: Source, S: Sink>(alloc: Global, source: &mut I, sink: &mut S) -> Re
 
 /// All that `odsync replay` does: reads a script to its end, plays it on a new drive, and writes what it prints.
 /// Nothing is run where a line is no script line. The words are those after the program's name.
-pub fn replay_main<I: Source, S: Sink>(alloc: Global, words: &[String], source: &mut I, sink: &mut S) -> ReplayStatus
+pub fn replay_main<I: Source, S: Sink>(
+    alloc: Global,
+    words: &[String],
+    source: &mut I,
+    sink: &mut S,
+) -> ReplayStatus
     ensures usage { result ≡ ReplayStatus.Usage → is_replay words.now ≡ false }
     ensures words { is_replay words.now ≡ false → (result ≡ ReplayStatus.Usage) × (source.new ≡ source.old) × (sink.new ≡ sink.old) }
     ensures replayed { result ≡ ReplayStatus.Replayed → Replays (I.left source.old) (S.written sink.old) (S.written sink.new) }

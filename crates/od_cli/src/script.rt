@@ -24,7 +24,6 @@ impl From<NoMemory> for ScriptFault {
     }
 }
 
-
 /// The path of an entry that a word spells.
 fn read_path(alloc: Global, word: &[u8]) -> Result<Path, LineFault>
     ensures ok { IfOk result (λ path. script_path word.now ≡ Some path) }
