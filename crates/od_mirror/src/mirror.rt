@@ -182,10 +182,7 @@ fn put_record(items: &mut BTreeMap<u64, Item>, item: Item) -> Result<(), NoMemor
     ensures keyed { IsKeyed items.old.entries → IsKeyed items.new.entries }
 {
     match item.kind {
-        Kind::Folder { .. } => {
-            items.insert(item.id.0, item)?;
-        }
-        Kind::File { .. } => {
+        Kind::Folder { .. } | Kind::File { .. } => {
             items.insert(item.id.0, item)?;
         }
         Kind::Deleted => {

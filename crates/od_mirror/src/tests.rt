@@ -115,6 +115,12 @@ fn pages_make_a_drive_or_name_the_least_fault(rt: HostRuntime) -> Result<(), Fai
             [folder, folder, file],
             "see item ItemId(1)",
         ),
+        (
+            "no root, and an item before it",
+            [folder, folder, file],
+            [folder, (0, 1, "z", 'f'), file],
+            "see item ItemId(0)",
+        ),
     ] {
         let text = told(rt.alloc(), pulled(rt.alloc(), &first, &second))?;
         assert!(rt; text.as_str().ends_with(want), "{name}: {text}");
