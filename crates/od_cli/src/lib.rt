@@ -3,9 +3,11 @@
 
 mod fault;
 mod line;
+mod lines;
 mod read;
 mod script;
 mod status;
+mod words;
 
 pub use line::Line;
 pub use script::ScriptFault;
