@@ -10,5 +10,5 @@ mod status;
 mod words;
 
 pub use line::Line;
-pub use script::ScriptFault;
+pub use script::{ScriptFault, read_script};
 pub use status::ReplayStatus;

@@ -1,4 +1,4 @@
-ghost use Rattle.std.specs.Prelude.{◌≡◌, ℕ, [], ◌∷◌, Some, None, Ok, Err, nat_eq, IfOk, IsErrOf};
+ghost use Rattle.std.specs.Prelude.{◌≡◌, ℕ, [], ◌∷◌, ◌++◌, Some, None, Ok, Err, nat_eq, IfOk, OnOk, IsErrOf};
 ghost use Rattle.std.specs.List.{list_any};
 ghost use Rattle.std.specs.Option.{option_to_list};
 ghost use Rattle.std.specs.Str.{is_utf8};
@@ -45,14 +45,22 @@ pub fn read_script(alloc: Global, text: &[u8]) -> Result<List<Line>, ScriptFault
             return Err(ScriptFault::BadLine(number));
         }
         match read_line(alloc, line.as_slice()) {
-            Ok(Some(read)) => lines.push(read)?,
-            Ok(None) => {}
+            Ok(found) => push_found(&mut lines, found)?,
             Err(LineFault::Bad) => return Err(ScriptFault::BadLine(number)),
             Err(LineFault::Memory) => return Err(ScriptFault::Memory),
         }
         number += 1;
     }
     Ok(lines)
+}
+
+fn push_found(lines: &mut List<Line>, found: Option<Line>) -> Result<(), NoMemory>
+    ensures { OnOk result (lines.new ≡ lines.old ++ option_to_list found) }
+{
+    match found {
+        Some(line) => lines.push(line),
+        None => Ok(()),
+    }
 }
 
 /// What a line of a script does, if it does something.

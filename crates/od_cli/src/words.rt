@@ -1,5 +1,5 @@
-ghost use Rattle.std.specs.Prelude.{◌≡◌, ◌≤◌, Some, None, length, IfOk, IsErrOf, MatchOption};
-ghost use Rattle.std.specs.List.{list_all};
+ghost use Rattle.std.specs.Prelude.{◌≡◌, ◌<◌, ◌≤◌, Some, None, length, nat_eq, IfOk, IfSome, IsErrOf, MatchOption};
+ghost use Rattle.std.specs.List.{list_all, position};
 ghost use Rattle.od_cli.specs.Script.{first_word, is_plain, is_quoted, script_content, script_path, unquoted};
 
 use crate::fault::LineFault;
@@ -76,7 +76,19 @@ fn is_plain(byte: u8) -> bool
 pub fn first_word(text: &[u8]) -> Option<(&[u8], &[u8])>
     ensures { MatchOption result (first_word text.now ≡ None) (λ parts. first_word text.now ≡ Some (parts.0.now, parts.1.now)) }
 {
-    let at = text.iter().position(|byte| *byte == b' ')?;
-    let (word, rest) = text.split_at(at);
-    Some((word, &rest[1..]))
+    match first_space(text) {
+        Some(at) => {
+            let (word, _) = text.split_at(at);
+            let (_, rest) = text.split_at(at + 1);
+            Some((word, rest))
+        }
+        None => None,
+    }
+}
+
+fn first_space(text: &[u8]) -> Option<usize>
+    ensures cases { result ≡ position (λ b. nat_eq b 32) text.now }
+    ensures within { IfSome result (λ at. at < length text.now) }
+{
+    text.iter().position(|byte| *byte == b' ')
 }
