@@ -18,3 +18,11 @@ written_of sink = Some sink.bytes
 -- how often the sink has failed
 abbrev pub write_faults_of : MemorySink → ℕ
 write_faults_of sink = sink.faults
+
+-- the calls at which the source fails
+abbrev pub read_failing_of : MemorySource → List ℕ
+read_failing_of source = source.failing
+
+-- the calls at which the sink fails
+abbrev pub write_failing_of : MemorySink → List ℕ
+write_failing_of sink = sink.failing

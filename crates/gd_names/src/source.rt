@@ -48,12 +48,13 @@ fn is_listed(numbers: &List<u64>, number: u64) -> bool {
 }
 
 impl MemorySource {
-    ghost use Rattle.gd_names.specs.Memory.{left_of, read_faults_of};
+    ghost use Rattle.gd_names.specs.Memory.{left_of, read_faults_of, read_failing_of};
 
     pub fn new(bytes: Bytes, piece: usize, failing: List<u64>) -> MemorySource
         requires { 0 < piece }
         ensures left { left_of result ≡ Some bytes }
         ensures faults { read_faults_of result ≡ 0 }
+        ensures failing { read_failing_of result ≡ failing }
     {
         MemorySource {
             bytes,

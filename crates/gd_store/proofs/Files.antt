@@ -1,5 +1,5 @@
 -- A sibling that is a file is one by its number too.
-use Rattle.std.proofs.Common.{◌≡◌, ℕ, ◌<◌, Bool, true, false, cond, ◌||◌, nat_eq, List, [], ◌∷◌, map, filter, is_none, Option, Some, None, refl, sym, ap, ◌∙◌, subst, arith, eq-eqb}
+use Rattle.std.proofs.Common.{◌≡◌, ℕ, ◌<◌, Bool, true, false, cond, ◌||◌, nat_eq, List, [], ◌∷◌, map, filter, is_none, Some, refl, ap, ◌∙◌, subst, arith, eq-eqb}
 use Rattle.std.specs.List.{All, AllPairs, find}
 use Rattle.std.proofs.lemmas.Bool.Decides.{nat_tests}
 use Rattle.std.proofs.lemmas.List.Elements.{All-head, All-tail}
@@ -49,7 +49,7 @@ file-at p parent (item ∷ items) sibling pairs all found file =
     let is_file : is_none item.bytes ≡ false = ap (λ (x : Sibling). x.folder) s ∙ file in
     let P : Sibling → Type 0 = λ x. is_folder x.id (live_node item ∷ nodes) ≡ false in
     subst P s (ap (λ b. b || is_some_folder (cond (nat_eq item.number item.number) (Some (live_node item)) (node_at item.number nodes))) no_one
-        ∙ ap (λ b. is_some_folder (cond b (Some (live_node item)) (node_at item.number nodes))) same ∙ is_file) in
+    ∙ ap (λ b. is_some_folder (cond b (Some (live_node item)) (node_at item.number nodes))) same ∙ is_file) in
     let at : cond (p (sibling_of item)) (Some (sibling_of item)) (find p others) ≡ Some sibling → is_folder sibling.id (live_node item ∷ nodes) ≡ false =
     elim (p (sibling_of item)) as (λ b. cond b (Some (sibling_of item)) (find p others) ≡ Some sibling → is_folder sibling.id (live_node item ∷ nodes) ≡ false)
     [ true ↦ (λ e. here cc) | false ↦ later ] in

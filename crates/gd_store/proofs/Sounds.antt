@@ -1,5 +1,5 @@
 -- What a store holds stays a tree.
-use Rattle.std.proofs.Common.{◌≡◌, ℕ, ◌+◌, ◌<◌, ◌≤◌, Bool, true, false, List, [], ◌∷◌, length, None, Some, refl, sym, ap, ◌∙◌, subst, arith}
+use Rattle.std.proofs.Common.{◌≡◌, ℕ, ◌+◌, ◌<◌, ◌≤◌, true, false, List, length, None, refl, sym, subst, arith}
 use Rattle.std.specs.List.{All}
 use Rattle.std.proofs.lemmas.List.Elements.{All-weaker}
 use Rattle.gd_names.specs.Caseless.{equal_caseless}
@@ -8,9 +8,9 @@ use Rattle.gd_names.specs.declared.conflict.Sibling.{Sibling}
 use Rattle.gd_names.specs.declared.conflict.Settle.{Settle}
 use Rattle.gd_names.specs.declared.conflict.Settle.TheVariants.{Free, Over, Refuse}
 use Rattle.gd_conflict.proofs.Free.{settled-free, over-sibling}
-use Rattle.gd_item.specs.Inventory.{Inventory, Effect, after, inventory, PutOver}
+use Rattle.gd_item.specs.Inventory.{Inventory, Effect, after, PutOver}
 use Rattle.gd_item.specs.Nodes.{is_folder}
-use Rattle.gd_item.specs.Refusals.{settled_in, siblings_in, is_refuse, folder_effect, file_effect, make_folder_refusal, make_folder_effect, put_over_refusal, put_under_refusal}
+use Rattle.gd_item.specs.Refusals.{settled_in, siblings_in, folder_effect, file_effect, make_folder_refusal, make_folder_effect, put_over_refusal, put_under_refusal}
 use Rattle.gd_item.specs.Sound.{IsWithin, IsItemMap}
 use Rattle.gd_item.specs.Trees.{nodes_of}
 use Rattle.gd_item.specs.declared.condition.Condition.{Condition}
@@ -18,7 +18,7 @@ use Rattle.gd_item.specs.declared.live.LiveItem.{LiveItem}
 use Rattle.gd_item.proofs.Effects.{next-inventory, number-positive}
 use Rattle.gd_item.proofs.Soundness.{sound-folder, sound-file, sound-over}
 use Rattle.gd_store.specs.Stands.{Stands}
-use Rattle.gd_store.proofs.Allowed.{MayMake, may-make, MayPut, may-put, clear, un-not, HasRoom}
+use Rattle.gd_store.proofs.Allowed.{MayMake, may-make, MayPut, may-put, clear, HasRoom}
 use Rattle.gd_store.proofs.Counts.{siblings-few}
 use Rattle.gd_store.proofs.Files.{file-at}
 
@@ -45,7 +45,7 @@ folder-sound : (held : Inventory) (parent : ℕ) (name : List ℕ) (behaviour : 
     → MayMake held parent name settle → IsItemMap (after held (folder_effect parent name settle))
 folder-sound held parent name behaviour (Free free) sound next number is may =
     sound-folder held parent free sound next number may.there may.folder
-        (settled-free behaviour (siblings_in parent held.items) name free true (siblings-few parent 100000 held.items held.items (siblings_in parent held.items) refl refl (few-items held _ 0 may.room)) is)
+    (settled-free behaviour (siblings_in parent held.items) name free true (siblings-few parent 100000 held.items held.items (siblings_in parent held.items) refl refl (few-items held _ 0 may.room)) is)
 folder-sound held parent name behaviour (Over id) sound next number is may =
     let over = over-sibling behaviour (siblings_in parent held.items) name true id is in
     let not_true : true ≡ false = over.4 in
@@ -63,7 +63,7 @@ under-sound : (held : Inventory) (parent : ℕ) (name bytes : List ℕ) (behavio
     → MayPut held parent name bytes others settle → IsItemMap (after held (file_effect parent name bytes settle))
 under-sound held parent name bytes behaviour others (Free free) sound next number is may =
     sound-file held parent free bytes sound next number may.there may.folder
-        (settled-free behaviour (siblings_in parent held.items) name free false (siblings-few parent 100000 held.items held.items (siblings_in parent held.items) refl refl (few-items held _ _ may.room)) is)
+    (settled-free behaviour (siblings_in parent held.items) name free false (siblings-few parent 100000 held.items held.items (siblings_in parent held.items) refl refl (few-items held _ _ may.room)) is)
 under-sound held parent name bytes behaviour others (Over id) sound next number is may =
     sound-over held id bytes sound number (over-file held parent name behaviour id sound is)
 under-sound held parent name bytes behaviour others Refuse sound next number is may = let had : true ≡ false = may.had in absurd cc

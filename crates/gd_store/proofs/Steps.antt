@@ -1,12 +1,8 @@
 -- A store that stands for its effects stands for one more.
-use Rattle.std.proofs.Common.{◌≡◌, ℕ, ◌+◌, ◌<◌, Bool, true, false, List, [], ◌∷◌, ◌++◌, length, Option, Some, None, Result, Ok, Err, refl, sym, ap, ◌∙◌, subst, arith}
-use Rattle.gd_names.specs.declared.conflict.Conflict.{Conflict}
-use Rattle.gd_item.specs.Ids.{item_id}
+use Rattle.std.proofs.Common.{◌≡◌, List, [], ◌∷◌, ◌++◌, Option, None, Result, Ok, Err, sym, ap, ◌∙◌, subst}
 use Rattle.gd_item.specs.Inventory.{Inventory, Effect, after, inventory}
-use Rattle.gd_item.specs.Refusals.{make_folder_refusal, make_folder_effect}
 use Rattle.gd_item.specs.Sound.{IsItemMap}
 use Rattle.gd_item.specs.declared.fault.StoreFault.{StoreFault}
-use Rattle.gd_item.specs.declared.id.ItemId.{ItemId}
 use Rattle.gd_item.proofs.Effects.{inventory-snoc}
 use Rattle.gd_store.specs.Stands.{Stands, Answers}
 

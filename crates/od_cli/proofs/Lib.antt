@@ -1,3 +1,10 @@
 pub mod Commands
 pub mod Scripts
 pub mod Spaces
+pub mod Prints
+pub mod Pulls
+pub mod Removals
+pub mod Calls
+pub mod Playing
+pub mod Reading
+pub mod Ends

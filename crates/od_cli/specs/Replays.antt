@@ -1,8 +1,7 @@
 -- What a replay does: from the bytes that its source has left to those that its sink was given.
-use Rattle.std.specs.Prelude.{◌≡◌, ℕ, ◌<◌, ◌≤◌, List, [], ◌∷◌, ◌++◌, length, take, codes, string_bytes, nat_eq, Bool, false, Option, Some, Result, Ok, Err}
+use Rattle.std.specs.Prelude.{◌≡◌, ℕ, ◌<◌, ◌≤◌, List, [], ◌∷◌, ◌++◌, length, take, codes, string_bytes, String, nat_eq, Bool, false, Option, Some, None, Result, Ok, Err}
 use Rattle.std.specs.Cmp.Lexicographic.{pointwise}
-use Rattle.std.specs.declared.alloc.Global.{Global}
-use Rattle.std.specs.String.{String}
+use Rattle.std.specs.Global.{Global}
 use Rattle.std.specs.Fmt.{decimal}
 use Rattle.od_cli.specs.declared.line.Line.{Line}
 use Rattle.od_cli.specs.Played.{played}
@@ -51,3 +50,8 @@ abbrev pub is_replay : List (String Global) → Bool
 is_replay [] = false
 is_replay (word ∷ []) = pointwise nat_eq (string_bytes word) (codes "replay")
 is_replay (word ∷ next ∷ words) = false
+
+-- the line that is no script line, if there is one
+abbrev pub bad_line_of : Result (List Line) ℕ → Option ℕ
+bad_line_of (Ok lines) = None
+bad_line_of (Err number) = Some number

@@ -1,14 +1,21 @@
 //! The commands of the client: what `odsync replay` does.
 #![tactic(auto)]
 
+mod address;
 mod fault;
 mod line;
 mod lines;
+mod output;
+mod play;
+mod print;
+mod pull;
 mod read;
+mod replay;
 mod script;
 mod status;
 mod words;
 
 pub use line::Line;
+pub use replay::replay_main;
 pub use script::{ScriptFault, read_script};
 pub use status::ReplayStatus;

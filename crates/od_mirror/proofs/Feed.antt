@@ -12,7 +12,8 @@ use Rattle.gd_item.specs.declared.item.Item.{Item}
 use Rattle.gd_item.specs.declared.live.LiveItem.{LiveItem}
 use Rattle.od_mirror.specs.Pulled.{with_kind, with_record, with_records}
 use Rattle.od_mirror.proofs.Inserted.{put, put-less, put-greater, put-commutes, put-last, all-put}
-use Rattle.od_mirror.proofs.Pairs.{each, each-later, later-pairs, each-so, each-both, each-append, each-always}
+use Rattle.gd_item.proofs.Pairs.{AllPairs-tail}
+use Rattle.od_mirror.proofs.Pairs.{each, each-later, each-so, each-both, each-append, each-always}
 
 -- two records may change places
 abbrev pub Swaps : Item → Item → Type 0
@@ -129,7 +130,7 @@ all-apart all (item ∷ items) numbers changes = (
       (each-both (λ (y : LiveItem). item.number < y.number) (λ (y : LiveItem). item.change ≡ y.change → ⊥) (λ (y : LiveItem). AreApart (y.change, record_of all y) (item.change, record_of all item))
       (λ y rise differ. items-apart all item y rise differ) items
       (each-later (λ (x y : LiveItem). x.number < y.number) item items numbers) (each-later (λ (x y : LiveItem). x.change ≡ y.change → ⊥) item items changes)),
-  all-apart all items (later-pairs (λ (x y : LiveItem). x.number < y.number) item items numbers) (later-pairs (λ (x y : LiveItem). x.change ≡ y.change → ⊥) item items changes),
+  all-apart all items (AllPairs-tail (λ (x y : LiveItem). x.number < y.number) item items numbers) (AllPairs-tail (λ (x y : LiveItem). x.change ≡ y.change → ⊥) item items changes),
 )
 
 -- ---- items whose numbers rise stand in their order
@@ -147,7 +148,7 @@ in-order all (item ∷ items) es above numbers =
     (λ (y : LiveItem). AllByRecursion (λ (e : ℕ × Item). e.0 < y.number) (es ++ (item.number, record_of all item) ∷ []))
     (λ y low rise. each-append (λ (e : ℕ × Item). e.0 < y.number) es ((item.number, record_of all item) ∷ []) low (rise, tt)) items above.1
     (each-later (λ (x y : LiveItem). x.number < y.number) item items numbers))
-    (later-pairs (λ (x y : LiveItem). x.number < y.number) item items numbers)
+    (AllPairs-tail (λ (x y : LiveItem). x.number < y.number) item items numbers)
     ∙ append_assoc es ((item.number, record_of all item) ∷ []) (by_number all items)
 
 -- ---- the whole feed

@@ -1,6 +1,7 @@
--- Facts on each element of a list, and on each and every later one, from place by place to element by element.
+-- Facts on each element of a list, from place by place to element by element.
 use Rattle.std.proofs.Common.{suc, List, [], ◌∷◌, ◌++◌, arith}
 use Rattle.std.proofs.lemmas.List.Elements.{All-head, All-tail}
+use Rattle.gd_item.proofs.Pairs.{AllPairs-head}
 use Rattle.std.specs.List.{All, AllPairs, AllByRecursion}
 
 module _ {X : Type 0} where
@@ -9,10 +10,7 @@ module _ {X : Type 0} where
   each P (x ∷ xs) all = (All-head P x xs all, each P xs (All-tail P x xs all))
 
   pub each-later : (R : X → X → Type 0) (x : X) (xs : List X) → AllPairs R (x ∷ xs) → AllByRecursion (R x) xs
-  each-later R x xs pairs = each (R x) xs (λ j d below. pairs 0 (suc j) d (omega arith) (omega arith))
-
-  pub later-pairs : (R : X → X → Type 0) (x : X) (xs : List X) → AllPairs R (x ∷ xs) → AllPairs R xs
-  later-pairs R x xs pairs = λ i j d low below. pairs (suc i) (suc j) d (omega arith) (omega arith)
+  each-later R x xs pairs = each (R x) xs (AllPairs-head R x xs pairs)
 
   -- what follows from one fact, or from two, of each
   pub each-so : (P Q : X → Type 0) → ((x : X) → P x → Q x) → (xs : List X) → AllByRecursion P xs → AllByRecursion Q xs

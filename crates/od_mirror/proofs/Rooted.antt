@@ -2,6 +2,7 @@
 use Rattle.std.proofs.Common.{◌≡◌, ℕ, zero, suc, Bool, true, false, not, ◌&&◌, ◌||◌, cond, List, [], ◌∷◌, length, codes, is_some, nat_eq, nat_lt, Option, Some, None, refl, ap, ◌∙◌, arith}
 use Rattle.std.proofs.lemmas.Bool.Decides.{nat_tests}
 use Rattle.gd_item.specs.Nodes.{Node, node_at, is_some_folder, is_folder, below, below_parent, path_of_node, path_within, path_of, is_same_parent, is_twin, has_twin}
+use Rattle.gd_item.proofs.Climbs.{path-longer}
 use Rattle.gd_names.specs.Caseless.{equal_caseless}
 
 abbrev pub root_node : Node
@@ -41,48 +42,10 @@ same-path zero all number = refl
 same-path (suc steps) all number = path-at (nat_eq number 1) steps number all refl (same-path steps all)
 
 -- ---- one more step
-below-more : (above more : Option (List (List ℕ))) (name : List ℕ) (found : List (List ℕ)) → ((path : List (List ℕ)) → above ≡ Some path → more ≡ Some path)
-    → below above name ≡ Some found → below more name ≡ Some found
-below-more None more name found so is = absurd (cc)
-below-more (Some path) more name found so is = ap (λ at. below at name) (so path refl) ∙ is
-
-parent-more : (b : Bool) (above more : Option (List (List ℕ))) (name : List ℕ) (found : List (List ℕ)) → ((path : List (List ℕ)) → above ≡ Some path → more ≡ Some path)
-    → cond b (below above name) None ≡ Some found → cond b (below more name) None ≡ Some found
-parent-more true above more name found so is = below-more above more name found so is
-parent-more false above more name found so is = absurd (cc)
-
-step-more : (path more : ℕ → Option (List (List ℕ))) (all : List Node) (name : List ℕ) (parent : Option ℕ) (found : List (List ℕ))
-    → ((number : ℕ) (above : List (List ℕ)) → path number ≡ Some above → more number ≡ Some above)
-    → below_parent path all name parent ≡ Some found → below_parent more all name parent ≡ Some found
-step-more path more all name None found so is = absurd (cc)
-step-more path more all name (Some parent) found so is = parent-more (is_folder parent all) (path parent) (more parent) name found (so parent) is
-
-node-more : (path more : ℕ → Option (List (List ℕ))) (all : List Node) (at : Option Node) (found : List (List ℕ))
-    → ((number : ℕ) (above : List (List ℕ)) → path number ≡ Some above → more number ≡ Some above)
-    → path_of_node path all at ≡ Some found → path_of_node more all at ≡ Some found
-node-more path more all None found so is = absurd (cc)
-node-more path more all (Some node) found so is = step-more path more all node.name node.parent found so is
-
-zero-more : (b : Bool) (other : Option (List (List ℕ))) (found : List (List ℕ)) → cond b (Some []) None ≡ Some found → cond b (Some []) other ≡ Some found
-zero-more true other found is = is
-zero-more false other found is = absurd (cc)
-
-suc-more : (b : Bool) (path more : ℕ → Option (List (List ℕ))) (all : List Node) (at : Option Node) (found : List (List ℕ))
-    → ((number : ℕ) (above : List (List ℕ)) → path number ≡ Some above → more number ≡ Some above)
-    → cond b (Some []) (path_of_node path all at) ≡ Some found → cond b (Some []) (path_of_node more all at) ≡ Some found
-suc-more true path more all at found so is = is
-suc-more false path more all at found so is = node-more path more all at found so is
-
--- a path that was found is found with one more step
-pub one-more-step : (steps : ℕ) (all : List Node) (number : ℕ) (found : List (List ℕ)) → path_within steps all number ≡ Some found → path_within (suc steps) all number ≡ Some found
-one-more-step zero all number found is = zero-more (nat_eq number 1) (path_of_node (path_within 0 all) all (node_at number all)) found is
-one-more-step (suc steps) all number found is =
-    suc-more (nat_eq number 1) (path_within steps all) (path_within (suc steps) all) all (node_at number all) found (one-more-step steps all) is
-
 path-stays : (all : List Node) (number : ℕ) (path : Option (List (List ℕ))) → path_within (length all) all number ≡ path → is_some path ≡ true
     → path_within (suc (length all)) all number ≡ path
 path-stays all number None is there = absurd (cc)
-path-stays all number (Some path) is there = one-more-step (length all) all number path is
+path-stays all number (Some path) is there = path-longer all (length all) number path is
 
 -- the path of a number that has one is the same with the root's node in front
 pub path-with-root : (all : List Node) (number : ℕ) → is_some (path_of all number) ≡ true → path_of (root_node ∷ all) number ≡ path_of all number

@@ -12,7 +12,8 @@ use Rattle.gd_item.specs.declared.live.LiveItem.{LiveItem}
 use Rattle.od_mirror.specs.Drive.{records_of, placed_items}
 use Rattle.od_mirror.specs.Pulled.{nodes, is_misplaced, is_bad, AllFit, paths_of}
 use Rattle.od_mirror.proofs.Mapped.{mapped, in-order-mapped}
-use Rattle.od_mirror.proofs.Pairs.{each, each-later, later-pairs, each-so, each-both}
+use Rattle.gd_item.proofs.Pairs.{AllPairs-tail}
+use Rattle.od_mirror.proofs.Pairs.{each, each-later, each-so, each-both}
 use Rattle.od_mirror.proofs.Rooted.{root_node, path-with-root, root-has-none, root-is-none, no-later-twin}
 
 -- ---- the records as nodes
@@ -82,8 +83,8 @@ no-twins (item ∷ items) numbers apart = (
       (λ (y : LiveItem). list_any (is_twin (live_node y)) (map live_node (item ∷ items)) ≡ false)
       (λ y this others. rw this others) items
       (each-later (λ (x y : LiveItem). is_twin (live_node y) (live_node x) ≡ false) item items apart)
-      (no-twins items (later-pairs (λ (x y : LiveItem). x.number < y.number) item items numbers)
-      (later-pairs (λ (x y : LiveItem). is_twin (live_node y) (live_node x) ≡ false) item items apart)),
+      (no-twins items (AllPairs-tail (λ (x y : LiveItem). x.number < y.number) item items numbers)
+      (AllPairs-tail (λ (x y : LiveItem). is_twin (live_node y) (live_node x) ≡ false) item items apart)),
 )
 
 -- ---- all fit

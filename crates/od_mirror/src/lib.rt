@@ -9,3 +9,6 @@ mod view;
 pub use laws::a_feed_gives_the_drive;
 pub use mirror::{Mirror, PullFault, Taken};
 pub use view::MirrorView;
+
+#[cfg(test)]
+mod tests;

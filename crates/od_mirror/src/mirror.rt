@@ -90,7 +90,8 @@ impl Mirror {
 
     /// Takes one more page. Where memory runs out a part of the page may be taken: drop the mirror then.
     pub fn take_page(&mut self, page: &Page) -> Result<Taken, NoMemory>
-        ensures { IfOk result (λ taken. (self.new ≡ after_page self.old page.now) × (taken ≡ taken_of page.now.link)) }
+        ensures last { IfOk result (λ taken. taken ≡ Taken.Last → IsSome self.new.last) }
+        ensures ok { IfOk result (λ taken. (self.new ≡ after_page self.old page.now) × (taken ≡ taken_of page.now.link)) }
     {
         put_records(&mut self.items, page.items.as_slice())?;
         match &page.link {
@@ -181,10 +182,7 @@ fn put_record(items: &mut BTreeMap<u64, Item>, item: Item) -> Result<(), NoMemor
     ensures keyed { IsKeyed items.old.entries → IsKeyed items.new.entries }
 {
     match item.kind {
-        Kind::Folder { .. } => {
-            items.insert(item.id.0, item)?;
-        }
-        Kind::File { .. } => {
+        Kind::Folder { .. } | Kind::File { .. } => {
             items.insert(item.id.0, item)?;
         }
         Kind::Deleted => {

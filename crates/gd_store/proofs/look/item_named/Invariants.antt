@@ -1,7 +1,5 @@
-use Rattle.std.proofs.Common.{◌≡◌, map, drop, take, ◌++◌}
-use Rattle.gd_item.specs.Nodes.{live_node, is_folder, child_at}
-use Rattle.gd_item.specs.Records.{live_at}
-use Rattle.gd_item.specs.Refusals.{is_there, live_named, siblings_in}
+use Rattle.std.proofs.Common.{◌≡◌, drop}
+use Rattle.gd_item.specs.Refusals.{live_named}
 use Rattle.gd_store.proofs.look.item_named.Given as goal
 
 abbrev pub invariant-loop-item : goal.invariant-loop-item

@@ -1,4 +1,3 @@
-use Rattle.std.proofs.Common.{◌≡◌}
 use Rattle.gd_item.specs.Inventory.{with_bytes}
 use Rattle.gd_store.proofs.Overwriting.{Overwriting}
 use Rattle.gd_store.proofs.look.overwrite.Given as goal

@@ -1,6 +1,5 @@
-use Rattle.std.proofs.Common.{◌≡◌, ℕ, ◌∷◌, [], ◌++◌, Some, ap, sym, ◌∙◌}
+use Rattle.std.proofs.Common.{◌∷◌, [], ◌++◌, Some, ap, sym, ◌∙◌}
 use Rattle.std.specs.Option.{option_copied}
-use Rattle.gd_item.specs.Nodes.{below}
 use Rattle.gd_store.proofs.Climbs.{nothing, no-folder, with-folder}
 use Rattle.gd_store.proofs.path.+names_within.Goals as goal
 

@@ -9,5 +9,5 @@ pub returns-clause-answer : goal.returns-clause-answer
 returns-clause-answer c =
     λ log stands.
     answers c.args.self.now c.make.new.self log (λ held. make_folder_refusal held c.args.parent.0 c.args.name.now c.args.behaviour) (λ held. make_folder_effect held c.args.parent.0 c.args.name.now c.args.behaviour)
-        (λ (held : Inventory). item_id held.next) c.make.result stands
-        (make-sound c.args.self.now c.make.new.self log c.args.parent.0 c.args.name.now c.args.behaviour stands) c.make.ensures.answer
+    (λ (held : Inventory). item_id held.next) c.make.result stands
+    (make-sound c.args.self.now c.make.new.self log c.args.parent.0 c.args.name.now c.args.behaviour stands) c.make.ensures.answer

@@ -1,4 +1,4 @@
-use Rattle.std.proofs.Common.{ap, sym, ◌∙◌}
+use Rattle.std.proofs.Common.{ap, ◌∙◌}
 use Rattle.gd_item.specs.Inventory.{Inventory}
 use Rattle.gd_item.proofs.Effects.{number-inventory}
 use Rattle.gd_store.proofs.store.Store.number.Goals as goal

@@ -1,5 +1,5 @@
-use Rattle.std.proofs.Common.{◌≡◌, false, List, [], ◌∷◌, ◌++◌, sym, subst}
-use Rattle.gd_item.specs.Inventory.{Inventory, PutOver, inventory}
+use Rattle.std.proofs.Common.{◌≡◌, false, [], ◌∷◌, ◌++◌, sym, subst}
+use Rattle.gd_item.specs.Inventory.{PutOver, inventory}
 use Rattle.gd_item.specs.Refusals.{settled_in, file_effect, put_over_refusal, put_under_refusal, put_refusal, put_effect}
 use Rattle.gd_item.specs.declared.live.Place.{Place}
 use Rattle.gd_store.specs.Stands.{Answers, Stands, put_result}
@@ -11,19 +11,19 @@ pub returns-in-Over-clause-answer : goal.returns-in-Over-clause-answer
 returns-in-Over-clause-answer c =
     λ log stands.
     let P : Place → Type 0 = λ place. Answers (put_refusal (inventory log) place c.args.bytes.now c.args.behaviour c.args.condition.now c.args.session_bytes) c.put_over.result
-        (λ put. (put ≡ put_result (inventory log) (put_effect (inventory log) place c.args.bytes.now c.args.behaviour)) × Stands c.put_over.new.self (log ++ put_effect (inventory log) place c.args.bytes.now c.args.behaviour ∷ [])) in
+    (λ put. (put ≡ put_result (inventory log) (put_effect (inventory log) place c.args.bytes.now c.args.behaviour)) × Stands c.put_over.new.self (log ++ put_effect (inventory log) place c.args.bytes.now c.args.behaviour ∷ [])) in
     subst P (sym c.in-Over.is)
-        (answers c.args.self.now c.put_over.new.self log (λ held. put_over_refusal held c.in-Over.id.0 c.args.bytes.now c.args.condition.now c.args.session_bytes) (λ held. PutOver c.in-Over.id.0 c.args.bytes.now)
-        (λ held. put_result held (PutOver c.in-Over.id.0 c.args.bytes.now)) c.put_over.result stands
-        (put-over-sound c.args.self.now c.put_over.new.self log c.in-Over.id.0 c.args.bytes.now c.args.condition.now c.args.session_bytes stands) c.put_over.ensures.answer)
+    (answers c.args.self.now c.put_over.new.self log (λ held. put_over_refusal held c.in-Over.id.0 c.args.bytes.now c.args.condition.now c.args.session_bytes) (λ held. PutOver c.in-Over.id.0 c.args.bytes.now)
+    (λ held. put_result held (PutOver c.in-Over.id.0 c.args.bytes.now)) c.put_over.result stands
+    (put-over-sound c.args.self.now c.put_over.new.self log c.in-Over.id.0 c.args.bytes.now c.args.condition.now c.args.session_bytes stands) c.put_over.ensures.answer)
 
 pub returns-in-Under-clause-answer : goal.returns-in-Under-clause-answer
 returns-in-Under-clause-answer c =
     λ log stands.
     let P : Place → Type 0 = λ place. Answers (put_refusal (inventory log) place c.args.bytes.now c.args.behaviour c.args.condition.now c.args.session_bytes) c.put_under.result
-        (λ put. (put ≡ put_result (inventory log) (put_effect (inventory log) place c.args.bytes.now c.args.behaviour)) × Stands c.put_under.new.self (log ++ put_effect (inventory log) place c.args.bytes.now c.args.behaviour ∷ [])) in
+    (λ put. (put ≡ put_result (inventory log) (put_effect (inventory log) place c.args.bytes.now c.args.behaviour)) × Stands c.put_under.new.self (log ++ put_effect (inventory log) place c.args.bytes.now c.args.behaviour ∷ [])) in
     subst P (sym c.in-Under.is)
-        (answers c.args.self.now c.put_under.new.self log (λ held. put_under_refusal held c.in-Under.id.0 c.in-Under.name c.args.bytes.now c.args.behaviour c.args.condition.now c.args.session_bytes)
-        (λ held. file_effect c.in-Under.id.0 c.in-Under.name c.args.bytes.now (settled_in held c.in-Under.id.0 c.in-Under.name c.args.behaviour false))
-        (λ held. put_result held (file_effect c.in-Under.id.0 c.in-Under.name c.args.bytes.now (settled_in held c.in-Under.id.0 c.in-Under.name c.args.behaviour false))) c.put_under.result stands
-        (put-under-sound c.args.self.now c.put_under.new.self log c.in-Under.id.0 c.in-Under.name c.args.bytes.now c.args.behaviour c.args.condition.now c.args.session_bytes stands) c.put_under.ensures.answer)
+    (answers c.args.self.now c.put_under.new.self log (λ held. put_under_refusal held c.in-Under.id.0 c.in-Under.name c.args.bytes.now c.args.behaviour c.args.condition.now c.args.session_bytes)
+    (λ held. file_effect c.in-Under.id.0 c.in-Under.name c.args.bytes.now (settled_in held c.in-Under.id.0 c.in-Under.name c.args.behaviour false))
+    (λ held. put_result held (file_effect c.in-Under.id.0 c.in-Under.name c.args.bytes.now (settled_in held c.in-Under.id.0 c.in-Under.name c.args.behaviour false))) c.put_under.result stands
+    (put-under-sound c.args.self.now c.put_under.new.self log c.in-Under.id.0 c.in-Under.name c.args.bytes.now c.args.behaviour c.args.condition.now c.args.session_bytes stands) c.put_under.ensures.answer)

@@ -1,0 +1,69 @@
+ghost use Rattle.std.specs.Prelude.{◌≡◌, ℕ, false, OnOk, IsErrOf};
+ghost use Rattle.gd_names.specs.Streams.{Rose};
+ghost use Rattle.od_cli.specs.Replays.{is_replay, Replays, TellsBadLine, IsTooLong, WritesNothing, WritesPart};
+
+use crate::output::make_output;
+use crate::read::read_all;
+use crate::status::ReplayStatus;
+use gd_names::{Sink, Source};
+use std::alloc::Global;
+
+/// Whether the words give the command.
+fn is_command(words: &[String]) -> bool
+    ensures { result ≡ is_replay words.now }
+{
+    match words {
+        [word] => word.as_bytes() == b"replay".as_slice(),
+        _ => false,
+    }
+}
+
+/// Reads a script, plays it, and writes what it prints.
+fn replay<I: Source, S: Sink>(
+    alloc: Global,
+    source: &mut I,
+    sink: &mut S,
+) -> Result<(), ReplayStatus>
+    ensures replayed { OnOk result (Replays (I.left source.old) (S.written sink.old) (S.written sink.new)) }
+    ensures not_replayed { IsErrOf result ReplayStatus.Replayed → ⊥ }
+    ensures not_usage { IsErrOf result ReplayStatus.Usage → ⊥ }
+    ensures bad_line { (number : ℕ) → IsErrOf result (ReplayStatus.BadLine number) → TellsBadLine number (I.left source.old) (S.written sink.old) (S.written sink.new) }
+    ensures too_long { IsErrOf result ReplayStatus.TooLong → IsTooLong (I.left source.old) × WritesNothing (S.written sink.old) (S.written sink.new) }
+    ensures read { IsErrOf result ReplayStatus.ReadFault → Rose (I.faults source.old) (I.faults source.new) × WritesNothing (S.written sink.old) (S.written sink.new) }
+    ensures write { IsErrOf result ReplayStatus.WriteFault → Rose (S.faults sink.old) (S.faults sink.new) × WritesPart (I.left source.old) (S.written sink.old) (S.written sink.new) }
+    ensures memory { IsErrOf result ReplayStatus.Memory → WritesPart (I.left source.old) (S.written sink.old) (S.written sink.new) }
+{
+    let text = read_all(alloc, source)?;
+    let made = make_output(alloc, text.as_slice())?;
+    sink.write(made.text.as_slice())?;
+    match made.bad_line {
+        None => Ok(()),
+        Some(number) => Err(ReplayStatus::BadLine(number)),
+    }
+}
+
+/// All that `odsync replay` does: reads a script to its end, plays it on a new drive, and writes what it prints.
+/// Nothing is run where a line is no script line. The words are those after the program's name.
+pub fn replay_main<I: Source, S: Sink>(
+    alloc: Global,
+    words: &[String],
+    source: &mut I,
+    sink: &mut S,
+) -> ReplayStatus
+    ensures usage { result ≡ ReplayStatus.Usage → is_replay words.now ≡ false }
+    ensures words { is_replay words.now ≡ false → (result ≡ ReplayStatus.Usage) × (source.new ≡ source.old) × (sink.new ≡ sink.old) }
+    ensures replayed { result ≡ ReplayStatus.Replayed → Replays (I.left source.old) (S.written sink.old) (S.written sink.new) }
+    ensures bad_line { (number : ℕ) → result ≡ ReplayStatus.BadLine number → TellsBadLine number (I.left source.old) (S.written sink.old) (S.written sink.new) }
+    ensures too_long { result ≡ ReplayStatus.TooLong → IsTooLong (I.left source.old) × WritesNothing (S.written sink.old) (S.written sink.new) }
+    ensures read { result ≡ ReplayStatus.ReadFault → Rose (I.faults source.old) (I.faults source.new) × WritesNothing (S.written sink.old) (S.written sink.new) }
+    ensures write { result ≡ ReplayStatus.WriteFault → Rose (S.faults sink.old) (S.faults sink.new) × WritesPart (I.left source.old) (S.written sink.old) (S.written sink.new) }
+    ensures memory { result ≡ ReplayStatus.Memory → WritesPart (I.left source.old) (S.written sink.old) (S.written sink.new) }
+{
+    if !is_command(words) {
+        return ReplayStatus::Usage;
+    }
+    match replay(alloc, source, sink) {
+        Ok(()) => ReplayStatus::Replayed,
+        Err(status) => status,
+    }
+}

@@ -1,0 +1,141 @@
+use super::*;
+use gd_item::{Digest, Item, ItemId, Kind, Page, PageLink, Tag};
+use gd_names::{List, NoMemory, Path, Text};
+use std::alloc::{AllocError, Global};
+use std::test::Fail;
+
+/// A record: its number, its parent's, its name, and `d` for a folder, `f` for a file or `x` for a deleted item.
+type Row = (u64, u64, &'static str, char);
+
+fn record(alloc: Global, (number, parent, name, kind): Row) -> Result<Item, NoMemory> {
+    let kind = match kind {
+        'd' => Kind::Folder { child_count: 0 },
+        'f' => Kind::File {
+            digest: Digest([0; 32]),
+        },
+        _ => Kind::Deleted,
+    };
+    Ok(Item {
+        id: ItemId(number),
+        parent: if parent == 0 {
+            None
+        } else {
+            Some(ItemId(parent))
+        },
+        parent_path: None,
+        name: Text::from_str(alloc, name)?,
+        size: 0,
+        etag: Tag(Text::from_str(alloc, "e1")?),
+        ctag: None,
+        kind,
+    })
+}
+
+fn page(alloc: Global, rows: &[Row], link: PageLink) -> Result<Page, NoMemory> {
+    let mut items = List::new(alloc);
+    for row in rows {
+        items.push(record(alloc, *row)?)?;
+    }
+    Ok(Page { items, link })
+}
+
+fn pulled(alloc: Global, first: &[Row], second: &[Row]) -> Result<MirrorView, PullFault> {
+    let mut mirror = Mirror::start(alloc, List::new(alloc), None)?;
+    let next = PageLink::Next(Text::from_str(alloc, "t1.3.3.1")?);
+    let _more = mirror.take_page(&page(alloc, first, next)?)?;
+    let delta = PageLink::Delta(Text::from_str(alloc, "t1.3.3")?);
+    match mirror.take_page(&page(alloc, second, delta)?)? {
+        Taken::Last => mirror.finish(),
+        Taken::More => Err(PullFault::Memory),
+    }
+}
+
+fn write_path(text: &mut String, path: Path) -> Result<(), AllocError> {
+    text.push_str(" ")?;
+    for name in path.names() {
+        text.push_str("/")?;
+        text.push_str(name.as_str())?;
+    }
+    Ok(())
+}
+
+/// The token and the paths, or the fault, as a text.
+fn told(alloc: Global, pull: Result<MirrorView, PullFault>) -> Result<String, NoMemory> {
+    match pull {
+        Ok(view) => {
+            let mut text = String::from_str(alloc, view.token.as_str())?;
+            for (path, _item) in view.paths(alloc)?.into_vec() {
+                write_path(&mut text, path)?;
+            }
+            Ok(text)
+        }
+        Err(fault) => Ok(format!(in alloc; "{fault}")?),
+    }
+}
+
+#[test]
+fn pages_make_a_drive_or_name_the_least_fault(rt: HostRuntime) -> Result<(), Fail> {
+    let root = (1, 0, "root", 'd');
+    let folder = (2, 1, "d", 'd');
+    let file = (3, 2, "a", 'f');
+    for (name, first, second, want) in [
+        (
+            "one page",
+            [root, folder, file],
+            [root, folder, file],
+            "t1.3.3 /d /d/a",
+        ),
+        (
+            "the last record counts",
+            [root, folder, file],
+            [root, folder, (3, 1, "B", 'f')],
+            "t1.3.3 /B /d",
+        ),
+        (
+            "a deleted item is none",
+            [root, folder, file],
+            [root, folder, (3, 2, "", 'x')],
+            "t1.3.3 /d",
+        ),
+        (
+            "two below each other",
+            [root, file, file],
+            [root, (2, 3, "d", 'd'), (3, 2, "a", 'd')],
+            "see item ItemId(2)",
+        ),
+        (
+            "names that differ in case",
+            [root, root, root],
+            [root, (2, 1, "a", 'f'), (3, 1, "A", 'f')],
+            "see item ItemId(3)",
+        ),
+        (
+            "no root",
+            [folder, folder, file],
+            [folder, folder, file],
+            "see item ItemId(1)",
+        ),
+        (
+            "no root, and an item before it",
+            [folder, folder, file],
+            [folder, (0, 1, "z", 'f'), file],
+            "see item ItemId(0)",
+        ),
+    ] {
+        let text = told(rt.alloc(), pulled(rt.alloc(), &first, &second))?;
+        assert!(rt; text.as_str().ends_with(want), "{name}: {text}");
+    }
+    Ok(())
+}
+
+#[test]
+fn a_mirror_begins_where_it_stood(rt: HostRuntime) -> Result<(), Fail> {
+    let mut items = List::new(rt.alloc());
+    items.push(record(rt.alloc(), (1, 0, "root", 'd'))?)?;
+    let token = Text::from_str(rt.alloc(), "t1.2.2")?;
+    let mut mirror = Mirror::start(rt.alloc(), items, Some(token.clone()?))?;
+    assert!(rt; mirror.token() == Some(&token));
+    mirror.gone();
+    assert!(rt; mirror.token() == None);
+    Ok(())
+}
