@@ -1,3 +1,6 @@
+pub mod Commands
+pub mod Scripts
+pub mod Spaces
 pub mod Prints
 pub mod Pulls
 pub mod Removals

@@ -4,6 +4,7 @@
 mod address;
 mod fault;
 mod line;
+mod lines;
 mod output;
 mod play;
 mod print;
@@ -12,6 +13,7 @@ mod read;
 mod replay;
 mod script;
 mod status;
+mod words;
 
 pub use line::Line;
 pub use replay::replay_main;

@@ -1,10 +1,18 @@
-ghost use Rattle.std.specs.Prelude.{◌≡◌, ℕ, Ok, Err, Some, None, IfOk, IsErrOf};
-ghost use Rattle.od_cli.specs.Script.{script, script_path};
+ghost use Rattle.std.specs.Prelude.{◌≡◌, ℕ, [], ◌∷◌, ◌++◌, Some, None, Ok, Err, nat_eq, IfOk, OnOk, IsErrOf};
+ghost use Rattle.std.specs.List.{list_any};
+ghost use Rattle.std.specs.Option.{option_to_list};
+ghost use Rattle.std.specs.Str.{is_utf8};
+ghost use Rattle.od_cli.specs.Script.{command, first_word, folder_line, is_silent, line_of, put_parts, script};
 
 use crate::fault::LineFault;
 use crate::line::Line;
-use gd_names::{List, NoMemory, Path, PathFault, path_fits};
+use crate::lines::cut_lines;
+use crate::words::{first_word, read_content, read_path};
+use gd_names::{List, NoMemory};
 use std::alloc::Global;
+
+/// How many lines a script may have.
+const MOST_LINES: u64 = 1000;
 
 /// Why a text is no script.
 #[derive(Clone, Copy, Debug, PartialEq, Eq)]
@@ -24,30 +32,109 @@ impl From<NoMemory> for ScriptFault {
     }
 }
 
-/// The path of an entry that a word spells.
-fn read_path(alloc: Global, word: &[u8]) -> Result<Path, LineFault>
-    ensures ok { IfOk result (λ path. script_path word.now ≡ Some path) }
-    ensures bad { IsErrOf result LineFault.Bad → script_path word.now ≡ None }
+/// The lines that a text spells, or the number of the first that is no script line.
+pub fn read_script(alloc: Global, text: &[u8]) -> Result<List<Line>, ScriptFault>
+    ensures ok { IfOk result (λ lines. script text.now ≡ Ok lines) }
+    ensures bad_line { (n : ℕ) → IsErrOf result (ScriptFault.BadLine n) → script text.now ≡ Err n }
 {
-    match Path::read(alloc, word) {
-        Ok(path) => {
-            if path.is_root() {
-                return Err(LineFault::Bad);
-            }
-            if !path_fits(&path) {
-                return Err(LineFault::Bad);
-            }
-            Ok(path)
+    let texts = cut_lines(alloc, text)?;
+    let mut lines = List::new(alloc);
+    let mut number: u64 = 1;
+    for line in texts.as_slice() {
+        if number > MOST_LINES {
+            return Err(ScriptFault::BadLine(number));
         }
-        Err(PathFault::BadPath) => Err(LineFault::Bad),
-        Err(PathFault::Memory) => Err(LineFault::Memory),
+        match read_line(alloc, line.as_slice()) {
+            Ok(found) => push_found(&mut lines, found)?,
+            Err(LineFault::Bad) => return Err(ScriptFault::BadLine(number)),
+            Err(LineFault::Memory) => return Err(ScriptFault::Memory),
+        }
+        number += 1;
+    }
+    Ok(lines)
+}
+
+fn push_found(lines: &mut List<Line>, found: Option<Line>) -> Result<(), NoMemory>
+    ensures { OnOk result (lines.new ≡ lines.old ++ option_to_list found) }
+{
+    match found {
+        Some(line) => lines.push(line),
+        None => Ok(()),
     }
 }
 
-/// A stand-in.
-pub fn read_script(_alloc: Global, _text: &[u8]) -> Result<List<Line>, ScriptFault>
-    ensures ok { IfOk result (λ lines. script _text.now ≡ Ok lines) }
-    ensures bad_line { (n : ℕ) → IsErrOf result (ScriptFault.BadLine n) → script _text.now ≡ Err n }
+/// What a line of a script does, if it does something.
+fn read_line(alloc: Global, text: &[u8]) -> Result<Option<Line>, LineFault>
+    ensures ok { IfOk result (λ found. line_of text.now ≡ Some (option_to_list found)) }
+    ensures bad { IsErrOf result LineFault.Bad → line_of text.now ≡ None }
 {
-    Err(ScriptFault::Memory)
+    if !is_utf8(text) {
+        return Err(LineFault::Bad);
+    }
+    if is_silent(text) {
+        return Ok(None);
+    }
+    let line = read_command(alloc, text)?;
+    Ok(Some(line))
+}
+
+fn is_utf8(text: &[u8]) -> bool
+    ensures { result ≡ is_utf8 text.now }
+{
+    str::from_utf8(text).is_ok()
+}
+
+/// Whether a line does nothing.
+fn is_silent(text: &[u8]) -> bool
+    ensures { result ≡ is_silent text.now }
+{
+    text.is_empty() || text.starts_with(b"#")
+}
+
+/// What a line does that is neither empty nor a comment.
+fn read_command(alloc: Global, text: &[u8]) -> Result<Line, LineFault>
+    ensures ok { IfOk result (λ line. command text.now ≡ Some (line ∷ [])) }
+    ensures bad { IsErrOf result LineFault.Bad → command text.now ≡ None }
+{
+    if text == b"pull".as_slice() {
+        return Ok(Line::Pull);
+    }
+    if let Some(parts) = text.strip_prefix(b"other put ") {
+        return read_put(alloc, parts);
+    }
+    if let Some(word) = text.strip_prefix(b"other mkdir ") {
+        return read_folder(alloc, word);
+    }
+    Err(LineFault::Bad)
+}
+
+/// A path and a content in quotes, with a space between them.
+fn read_put(alloc: Global, text: &[u8]) -> Result<Line, LineFault>
+    ensures ok { IfOk result (λ line. put_parts (first_word text.now) ≡ Some (line ∷ [])) }
+    ensures bad { IsErrOf result LineFault.Bad → put_parts (first_word text.now) ≡ None }
+{
+    let Some((word, quoted)) = first_word(text) else {
+        return Err(LineFault::Bad);
+    };
+    let path = read_path(alloc, word)?;
+    let content = read_content(alloc, quoted)?;
+    Ok(Line::OtherPut(path, content))
+}
+
+/// A path alone.
+fn read_folder(alloc: Global, word: &[u8]) -> Result<Line, LineFault>
+    ensures ok { IfOk result (λ line. folder_line word.now ≡ Some (line ∷ [])) }
+    ensures bad { IsErrOf result LineFault.Bad → folder_line word.now ≡ None }
+{
+    if holds_space(word) {
+        return Err(LineFault::Bad);
+    }
+    let path = read_path(alloc, word)?;
+    Ok(Line::OtherMakeFolder(path))
+}
+
+fn holds_space(word: &[u8]) -> bool
+    ensures { result ≡ list_any (λ b. nat_eq b 32) word.now }
+{
+    word.iter().any(|byte| *byte == b' ')
 }
