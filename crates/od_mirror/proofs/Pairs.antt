@@ -1,5 +1,5 @@
 -- Facts on each element of a list, from place by place to element by element.
-use Rattle.std.proofs.Common.{suc, List, [], ◌∷◌, ◌++◌, arith}
+use Rattle.std.proofs.Common.{List, [], ◌∷◌, ◌++◌}
 use Rattle.std.proofs.lemmas.List.Elements.{All-head, All-tail}
 use Rattle.gd_item.proofs.Pairs.{AllPairs-head}
 use Rattle.std.specs.List.{All, AllPairs, AllByRecursion}
