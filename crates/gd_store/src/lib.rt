@@ -9,3 +9,6 @@ mod store;
 
 pub use gd_item::StoreFault;
 pub use store::Store;
+
+#[cfg(test)]
+mod tests;

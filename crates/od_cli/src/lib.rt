@@ -19,3 +19,6 @@ pub use line::Line;
 pub use replay::replay_main;
 pub use script::{ScriptFault, read_script};
 pub use status::ReplayStatus;
+
+#[cfg(test)]
+mod tests;

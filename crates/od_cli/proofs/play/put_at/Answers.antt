@@ -8,5 +8,5 @@ pub returns-clause-answer : goal.returns-clause-answer
 returns-clause-answer c =
     λ log stands.
     put-found log c.put_in.new.store c.args.path.now c.args.bytes.now c.in_ok-above.name Replace Free c.in-Some.parent c.put_in.result
-        (folder-found (inventory log) c.args.path.now c.in_ok-above.above c.by_path.result c.in-Some.parent c.in_ok-above.ensures.0 (c.by_path.ensures log stands) c.in-Some.is) c.in_ok-above.ensures.1
-        (c.put_in.ensures.answer log stands)
+    (folder-found (inventory log) c.args.path.now c.in_ok-above.above c.by_path.result c.in-Some.parent c.in_ok-above.ensures.0 (c.by_path.ensures log stands) c.in-Some.is) c.in_ok-above.ensures.1
+    (c.put_in.ensures.answer log stands)
