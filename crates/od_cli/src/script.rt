@@ -138,3 +138,6 @@ fn holds_space(word: &[u8]) -> bool
 {
     word.iter().any(|byte| *byte == b' ')
 }
+
+#[cfg(test)]
+mod tests;
