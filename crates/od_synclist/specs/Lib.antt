@@ -1,0 +1,4 @@
+pub mod Matching
+pub mod Rules
+pub mod Search
+pub mod Walked
