@@ -2,6 +2,8 @@
 use Rattle.std.specs.Prelude.{ℕ, List, codes}
 use Rattle.gd_item.specs.declared.fault.StoreFault.{StoreFault}
 use Rattle.gd_item.specs.declared.fault.StoreFault.TheVariants.{NotFound, NotFolder, NotFile, Root, BadName, Modified, IntoItself, NameTaken, PathTooLong, Quota, Memory}
+use Rattle.gd_item.specs.declared.fault.SessionFault.{SessionFault}
+use Rattle.gd_item.specs.declared.fault.SessionFault.TheVariants as session
 use Rattle.gd_item.specs.declared.fault.ErrorCode.{ErrorCode}
 use Rattle.gd_item.specs.declared.fault.ErrorCode.TheVariants.{InvalidRequest, InvalidRange, ItemNotFound, NotSupported, NameAlreadyExists, ResyncChangesApplyDifferences, ResyncChangesUploadDifferences, ResourceModified, GeneralException, QuotaLimitReached}
 
@@ -30,6 +32,29 @@ code_of NameTaken = NameAlreadyExists
 code_of PathTooLong = InvalidRequest
 code_of Quota = QuotaLimitReached
 code_of Memory = GeneralException
+
+-- the same of what upload sessions refuse
+abbrev pub session_status_of : SessionFault → ℕ
+session_status_of session.NoSession = 404
+session_status_of session.Total = 400
+session_status_of session.Form = 400
+session_status_of session.TooLarge = 413
+session_status_of (session.Range expected) = 416
+session_status_of session.Multiple = 400
+session_status_of session.Quota = 507
+session_status_of session.Many = 507
+session_status_of session.Memory = 503
+
+abbrev pub session_code_of : SessionFault → ErrorCode
+session_code_of session.NoSession = ItemNotFound
+session_code_of session.Total = InvalidRequest
+session_code_of session.Form = InvalidRequest
+session_code_of session.TooLarge = InvalidRequest
+session_code_of (session.Range expected) = InvalidRange
+session_code_of session.Multiple = InvalidRange
+session_code_of session.Quota = QuotaLimitReached
+session_code_of session.Many = QuotaLimitReached
+session_code_of session.Memory = GeneralException
 
 -- a code as it is spelt
 abbrev pub code_text : ErrorCode → List ℕ

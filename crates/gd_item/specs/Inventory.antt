@@ -1,7 +1,9 @@
 -- What a drive holds is read off the list of its effects. An effect is one made folder, one put, one move or one
 -- removal; each raises the drive's number by one, and made items get the numbers 2, 3 and so on.
-use Rattle.std.specs.Prelude.{ℕ, ◌+◌, not, cond, List, [], ◌∷◌, ◌++◌, length, filter, nat_eq, Some, None}
+use Rattle.std.specs.Prelude.{ℕ, ◌+◌, ◌-◌, not, cond, List, [], ◌∷◌, ◌++◌, length, take, filter, nat_eq, Option, Some, None}
 use Rattle.gd_item.specs.declared.live.LiveItem.{LiveItem}
+use Rattle.gd_item.specs.declared.live.Tombstone.{Tombstone}
+use Rattle.gd_item.specs.declared.live.Version.{Version}
 
 -- what one accepted step did
 pub data Effect : Type 0 where
@@ -11,24 +13,19 @@ pub data Effect : Type 0 where
   Moved : (number parent : ℕ) (name : List ℕ) → Effect
   Removed : (number : ℕ) → Effect
 
--- an item that was removed: its number, the folder in which it stood, and the drive's number after its removal
-pub record Tombstone : Type 0 where
-  pub number : ℕ
-  pub parent : ℕ
-  pub change : ℕ
-
 -- what a drive holds: its change number, the number of the next item, the items that live in order of number, the
--- removed ones in order of removal, and how many bytes all puts brought
+-- removed ones in order of removal, the versions that a later put replaced, and how many bytes all puts brought
 pub record Inventory : Type 0 where
   pub number : ℕ
   pub next : ℕ
   pub items : List LiveItem
   pub removed : List Tombstone
+  pub replaced : List Version
   pub kept : ℕ
 
 -- a new drive has its root alone
 abbrev pub new_drive : Inventory
-new_drive = record { number = 1; next = 2; items = []; removed = []; kept = 0 }
+new_drive = record { number = 1; next = 2; items = []; removed = []; replaced = []; kept = 0 }
 
 -- an item that was just made at this change number
 abbrev pub made_folder : ℕ → ℕ → ℕ → List ℕ → LiveItem
@@ -51,13 +48,24 @@ abbrev pub changed : ℕ → (LiveItem → LiveItem) → List LiveItem → List 
 changed number change [] = []
 changed number change (item ∷ items) = cond (nat_eq item.number number) (change item ∷ items) (item ∷ changed number change items)
 
--- the tombstones of the items that have the number
-abbrev pub tombstones : ℕ → ℕ → List LiveItem → List Tombstone
-tombstones change number [] = []
-tombstones change number (item ∷ items) =
-    cond (nat_eq item.number number)
-    (record { number = number; parent = item.parent; change = change } ∷ tombstones change number items)
-    (tombstones change number items)
+-- the living item of a number
+abbrev pub live_at : ℕ → List LiveItem → Option LiveItem
+live_at number [] = None
+live_at number (item ∷ items) = cond (nat_eq item.number number) (Some item) (live_at number items)
+
+-- the tombstone of an item that is removed at this change number
+abbrev pub tombstone_of : ℕ → Option LiveItem → List Tombstone
+tombstone_of change None = []
+tombstone_of change (Some item) = record { number = item.number; parent = item.parent; change = change } ∷ []
+
+-- the version that stands in a file, and that of an item that may be there
+abbrev pub version_in : LiveItem → Option (List ℕ) → List Version
+version_in item None = []
+version_in item (Some bytes) = record { item = item.number; content = item.content; bytes = bytes } ∷ []
+
+abbrev pub version_of : Option LiveItem → List Version
+version_of None = []
+version_of (Some item) = version_in item item.bytes
 
 -- what the drive holds after one more effect
 abbrev pub after : Inventory → Effect → Inventory
@@ -66,11 +74,11 @@ after held (MadeFolder parent name) =
 after held (PutNew parent name bytes) =
     record held { number = held.number + 1; next = held.next + 1; items = held.items ++ made_file (held.number + 1) held.next parent name bytes ∷ []; kept = held.kept + length bytes }
 after held (PutOver number bytes) =
-    record held { number = held.number + 1; items = changed number (with_bytes (held.number + 1) bytes) held.items; kept = held.kept + length bytes }
+    record held { number = held.number + 1; items = changed number (with_bytes (held.number + 1) bytes) held.items; replaced = held.replaced ++ version_of (live_at number held.items); kept = held.kept + length bytes }
 after held (Moved number parent name) =
     record held { number = held.number + 1; items = changed number (with_place (held.number + 1) parent name) held.items }
 after held (Removed number) =
-    record held { number = held.number + 1; items = filter (λ item. not (nat_eq item.number number)) held.items; removed = held.removed ++ tombstones (held.number + 1) number held.items }
+    record held { number = held.number + 1; items = filter (λ item. not (nat_eq item.number number)) held.items; removed = held.removed ++ tombstone_of (held.number + 1) (live_at number held.items) }
 
 -- what the drive holds after these effects
 abbrev pub after_all : Inventory → List Effect → Inventory
@@ -80,3 +88,7 @@ after_all held (effect ∷ effects) = after_all (after held effect) effects
 -- what a drive holds whose effects are these
 abbrev pub inventory : List Effect → Inventory
 inventory effects = after_all new_drive effects
+
+-- what it held after the first effects, whose number was this
+abbrev pub inventory_at : ℕ → List Effect → Inventory
+inventory_at number effects = inventory (take (number - 1) effects)

@@ -8,7 +8,7 @@ use Rattle.sha2.specs.Sha256.{sha256}
 use Rattle.gd_names.specs.Paths.{path_text}
 use Rattle.gd_item.specs.Ids.{item_id}
 use Rattle.gd_item.specs.Tags.{tag_of, etag_text, ctag_text}
-use Rattle.gd_item.specs.Inventory.{Inventory, Tombstone}
+use Rattle.gd_item.specs.Inventory.{Inventory, live_at}
 use Rattle.gd_item.specs.Nodes.{path_of}
 use Rattle.gd_item.specs.Trees.{nodes_of}
 use Rattle.gd_item.specs.declared.digest.Digest.{Digest}
@@ -17,6 +17,7 @@ use Rattle.gd_item.specs.declared.item.Kind.{Kind}
 use Rattle.gd_item.specs.declared.item.Kind.TheVariants.{Folder, File, Deleted}
 use Rattle.gd_item.specs.declared.item.Tag.{Tag}
 use Rattle.gd_item.specs.declared.live.LiveItem.{LiveItem}
+use Rattle.gd_item.specs.declared.live.Tombstone.{Tombstone}
 
 -- the digest of bytes
 abbrev pub digest_record : List ℕ → Digest
@@ -87,11 +88,6 @@ parent_path_text (name ∷ path) = codes "/drive/root:" ++ path_text (name ∷ p
 abbrev pub record_with : Bool → Inventory → LiveItem → Item
 record_with with_path held item =
     cond with_path (record (record_of held.items item) { parent_path = option_map parent_path_text (path_of (nodes_of held) item.parent) }) (record_of held.items item)
-
--- the living item of a number
-abbrev pub live_at : ℕ → List LiveItem → Option LiveItem
-live_at number [] = None
-live_at number (item ∷ items) = cond (nat_eq item.number number) (Some item) (live_at number items)
 
 -- the record of a number, if it is that of the root or of a living item
 abbrev pub record_at : ℕ → Bool → Inventory → Option Item

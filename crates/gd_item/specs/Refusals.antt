@@ -9,9 +9,9 @@ use Rattle.gd_names.specs.declared.conflict.Conflict.{Conflict}
 use Rattle.gd_names.specs.declared.conflict.Sibling.{Sibling}
 use Rattle.gd_names.specs.declared.conflict.Settle.{Settle}
 use Rattle.gd_names.specs.declared.conflict.Settle.TheVariants.{Free, Over, Refuse}
-use Rattle.gd_item.specs.Inventory.{Inventory, Effect, MadeFolder, PutNew, PutOver, Moved, Removed}
+use Rattle.gd_item.specs.Inventory.{Inventory, live_at, Effect, MadeFolder, PutNew, PutOver, Moved, Removed}
 use Rattle.gd_item.specs.Nodes.{Node, is_folder, node_at, path_of, below}
-use Rattle.gd_item.specs.Records.{content_tag, live_at}
+use Rattle.gd_item.specs.Records.{content_tag}
 use Rattle.gd_item.specs.Tags.{tag_of, etag_text, is_matching}
 use Rattle.gd_item.specs.Trees.{nodes_of}
 use Rattle.gd_item.specs.declared.condition.Condition.{Condition}
@@ -22,9 +22,23 @@ use Rattle.gd_item.specs.declared.live.LiveItem.{LiveItem}
 use Rattle.gd_item.specs.declared.live.Place.{Place}
 use Rattle.gd_item.specs.declared.live.Place.TheVariants as place
 
+-- why something is not given that may be there
+abbrev pub missing : {X : Type 0} → Option X → Option StoreFault
+missing None = Some NotFound
+missing (Some x) = None
+
 -- whether the number is that of the root or of a living item
 abbrev pub is_there : ℕ → List Node → Bool
 is_there number nodes = nat_eq number 1 || is_some (node_at number nodes)
+
+-- why a number is refused where a folder, or a file, is needed
+abbrev pub folder_refusal : Inventory → ℕ → Option StoreFault
+folder_refusal held number =
+    first_cause ((not (is_there number (nodes_of held)), NotFound) ∷ (not (is_folder number (nodes_of held)), NotFolder) ∷ [])
+
+abbrev pub file_refusal : Inventory → ℕ → Option StoreFault
+file_refusal held number =
+    first_cause ((not (is_there number (nodes_of held)), NotFound) ∷ (is_folder number (nodes_of held), NotFile) ∷ [])
 
 -- the items of a folder, as siblings of a new name
 abbrev pub sibling_of : LiveItem → Sibling

@@ -1,5 +1,5 @@
 ghost use Rattle.std.specs.Prelude.{◌≡◌};
-ghost use Rattle.gd_item.specs.Faults.{status_of, code_of, code_text};
+ghost use Rattle.gd_item.specs.Faults.{status_of, code_of, code_text, session_status_of, session_code_of};
 
 use gd_names::{Exact, NoMemory};
 use std::alloc::{AllocError, AllocFailed};
@@ -140,5 +140,64 @@ impl<T: Drop> From<AllocFailed<T>> for StoreFault {
 
     fn from(_error: AllocFailed<T>) -> StoreFault {
         StoreFault::Memory
+    }
+}
+
+/// Why an upload session is not begun, or refuses a fragment.
+#[derive(Clone, Copy, Debug, PartialEq, Eq, Error)]
+pub enum SessionFault {
+    #[error("no such session")]
+    NoSession,
+    #[error("the whole length is not that of the first fragment")]
+    Total,
+    #[error("the range is none of the file, or not that of the bytes")]
+    Form,
+    #[error("the fragment or the file is too large")]
+    TooLarge,
+    #[error("byte {0} is expected next")]
+    Range(u64),
+    #[error("a fragment before the last one is no multiple of 327,680 bytes")]
+    Multiple,
+    #[error("the drive is full")]
+    Quota,
+    #[error("too many sessions")]
+    Many,
+    #[error("out of memory")]
+    Memory,
+}
+
+impl SessionFault {
+    /// The status of the reply (RFC 9110).
+    pub fn status(self) -> u16
+        ensures { result ≡ session_status_of self }
+    {
+        match self {
+            SessionFault::NoSession => 404,
+            SessionFault::Total => 400,
+            SessionFault::Form => 400,
+            SessionFault::TooLarge => 413,
+            SessionFault::Range(_) => 416,
+            SessionFault::Multiple => 400,
+            SessionFault::Quota => 507,
+            SessionFault::Many => 507,
+            SessionFault::Memory => 503,
+        }
+    }
+
+    /// The code of the reply.
+    pub fn code(self) -> ErrorCode
+        ensures { result ≡ session_code_of self }
+    {
+        match self {
+            SessionFault::NoSession => ErrorCode::ItemNotFound,
+            SessionFault::Total => ErrorCode::InvalidRequest,
+            SessionFault::Form => ErrorCode::InvalidRequest,
+            SessionFault::TooLarge => ErrorCode::InvalidRequest,
+            SessionFault::Range(_) => ErrorCode::InvalidRange,
+            SessionFault::Multiple => ErrorCode::InvalidRange,
+            SessionFault::Quota => ErrorCode::QuotaLimitReached,
+            SessionFault::Many => ErrorCode::QuotaLimitReached,
+            SessionFault::Memory => ErrorCode::GeneralException,
+        }
     }
 }

@@ -20,6 +20,7 @@ pub fn file_replaced()
       items = record { number = 2; parent = 1; name = codes "d"; bytes = None; change = 2; content = 0 }
           ∷ record { number = 3; parent = 2; name = codes "a"; bytes = Some (codes "2"); change = 4; content = 4 } ∷ [];
       removed = [];
+      replaced = record { item = 3; content = 3; bytes = codes "1" } ∷ [];
       kept = 2;
     } }
     ensures path { path_of (nodes_of (inventory file_log)) 3 ≡ Some (codes "d" ∷ codes "a" ∷ []) }

@@ -3,6 +3,7 @@
 
 mod condition;
 mod digest;
+mod drive_instances;
 mod fault;
 mod id;
 mod instances;
@@ -11,18 +12,23 @@ mod laws;
 mod live;
 mod reply;
 mod request;
+mod step;
+mod token;
 mod tree_laws;
 
 pub use condition::{Condition, matches};
+pub use drive_instances::moves_refused;
 pub use digest::{Digest, digest_of};
-pub use fault::{ErrorCode, StoreFault};
+pub use fault::{ErrorCode, SessionFault, StoreFault};
 pub use id::ItemId;
 pub use instances::{file_replaced, folder_refusals, folder_removed, taken_name_put};
 pub use item::{Item, Kind, Tag, ctag_of, etag_of};
 pub use laws::ids_read_back;
-pub use live::{LiveItem, Place};
+pub use live::{LiveItem, Place, Tombstone, Version};
 pub use reply::{Page, PageLink, Reply, Resync};
 pub use request::{Address, Request, RequestKind};
+pub use step::{DriveEvent, Step, Who};
+pub use token::Token;
 pub use tree_laws::{
     made_folder_keeps_tree, new_bytes_keep_tree, new_drive_is_tree, new_file_keeps_tree,
     numbers_count_effects,

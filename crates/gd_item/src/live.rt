@@ -38,6 +38,48 @@ impl Exact for LiveItem {
     ghost exact = { λ x y h. h };
 }
 
+/// An item that was removed.
+#[derive(Clone, Copy, Debug, PartialEq, Eq)]
+pub struct Tombstone {
+    pub number: u64,
+    /// The number of the folder in which it stood.
+    pub parent: u64,
+    /// The drive's number after its removal.
+    pub change: u64,
+}
+
+impl Exact for Tombstone {
+    ghost use Rattle.std.proofs.Common.{rules};
+
+    ghost exact = { Prim.search rules };
+}
+
+/// What a put brought to a file.
+#[derive(Debug, Drop)]
+pub struct Version {
+    /// The number of the file.
+    pub item: u64,
+    /// The drive's number after the put.
+    pub content: u64,
+    pub bytes: Bytes,
+}
+
+impl Clone for Version {
+    ghost is_clone = { λ a b. b ≡ a };
+
+    fn clone(&self) -> Result<Version, AllocError> {
+        Ok(Version {
+            item: self.item,
+            content: self.content,
+            bytes: self.bytes.clone()?,
+        })
+    }
+}
+
+impl Exact for Version {
+    ghost exact = { λ x y h. h };
+}
+
 /// Where a file is put: over the file of this number, or under this folder with this name.
 #[derive(Debug, PartialEq, Eq, Drop)]
 pub enum Place {

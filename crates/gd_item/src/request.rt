@@ -97,6 +97,63 @@ pub enum Request {
     },
 }
 
+impl Clone for Request {
+    ghost is_clone = { λ a b. b ≡ a };
+
+    fn clone(&self) -> Result<Request, AllocError> {
+        match self {
+            Request::Get { at } => Ok(Request::Get { at: at.clone()? }),
+            Request::Children { at, after } => Ok(Request::Children {
+                at: at.clone()?,
+                after: after.clone()?,
+            }),
+            Request::MakeFolder { at, name, behaviour } => Ok(Request::MakeFolder {
+                at: at.clone()?,
+                name: name.clone()?,
+                behaviour: *behaviour,
+            }),
+            Request::Put { at, bytes, behaviour, condition } => Ok(Request::Put {
+                at: at.clone()?,
+                bytes: bytes.clone()?,
+                behaviour: *behaviour,
+                condition: condition.clone()?,
+            }),
+            Request::Patch { at, name, parent, condition } => Ok(Request::Patch {
+                at: at.clone()?,
+                name: name.clone()?,
+                parent: *parent,
+                condition: condition.clone()?,
+            }),
+            Request::Delete { at, condition } => Ok(Request::Delete {
+                at: at.clone()?,
+                condition: condition.clone()?,
+            }),
+            Request::Content { at } => Ok(Request::Content { at: at.clone()? }),
+            Request::Download { id, version } => Ok(Request::Download { id: *id, version: *version }),
+            Request::OpenSession { at, name, behaviour, condition } => Ok(Request::OpenSession {
+                at: at.clone()?,
+                name: name.clone()?,
+                behaviour: *behaviour,
+                condition: condition.clone()?,
+            }),
+            Request::Fragment { session, first, last, total, bytes } => Ok(Request::Fragment {
+                session: *session,
+                first: *first,
+                last: *last,
+                total: *total,
+                bytes: bytes.clone()?,
+            }),
+            Request::SessionStatus { session } => Ok(Request::SessionStatus { session: *session }),
+            Request::CancelSession { session } => Ok(Request::CancelSession { session: *session }),
+            Request::Delta { token } => Ok(Request::Delta { token: token.clone()? }),
+        }
+    }
+}
+
+impl Exact for Request {
+    ghost exact = { λ x y h. h };
+}
+
 /// The kind of a request.
 #[derive(Clone, Copy, Debug, PartialEq, Eq)]
 pub enum RequestKind {

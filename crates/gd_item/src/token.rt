@@ -1,0 +1,20 @@
+ghost use Rattle.std.specs.Prelude.{◌≡◌};
+
+use gd_names::Exact;
+
+/// Up to where a client has seen the feed of changes.
+#[derive(Clone, Copy, Debug, PartialEq, Eq)]
+pub struct Token {
+    /// The drive's epoch when the enumeration began.
+    pub epoch: u64,
+    /// The change number of the last record that was sent.
+    pub position: u64,
+    /// The drive's number when the enumeration began: what was removed up to there was never sent.
+    pub start: u64,
+}
+
+impl Exact for Token {
+    ghost use Rattle.std.proofs.Common.{rules};
+
+    ghost exact = { Prim.search rules };
+}
