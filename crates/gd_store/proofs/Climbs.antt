@@ -4,7 +4,7 @@ use Rattle.std.specs.Option.{option_map}
 use Rattle.std.proofs.lemmas.Bool.Decides.{nat_tests}
 use Rattle.gd_item.specs.declared.live.LiveItem.{LiveItem}
 use Rattle.gd_item.specs.Nodes.{Node, live_node, node_at, is_folder, below, path_of_node, path_within}
-use Rattle.gd_item.specs.Records.{live_at}
+use Rattle.gd_item.specs.Inventory.{live_at}
 
 -- the node of a number is that of its item
 pub node_at-live : (number : ℕ) (items : List LiveItem) → node_at number (map live_node items) ≡ option_map live_node (live_at number items)

@@ -6,7 +6,7 @@ use Rattle.gd_item.specs.Refusals.{touched, is_made}
 use Rattle.gd_item.specs.Sound.{IsItemMap}
 use Rattle.gd_item.specs.declared.id.ItemId.{ItemId}
 use Rattle.gd_item.specs.declared.fault.StoreFault.{StoreFault}
-use Rattle.gd_item.specs.declared.fault.StoreFault.TheVariants.{NotFound, Memory}
+use Rattle.gd_item.specs.declared.fault.StoreFault.TheVariants.{Memory}
 
 -- the store holds what these effects make, and that is a tree
 pub record Stands (store : Inventory) (effects : List Effect) : Type 0 where
@@ -27,8 +27,3 @@ pub record IsWithin (items last number : ℕ) : Type 0 where
 -- what a put hands back: the item, and whether it was made
 abbrev pub put_result : Inventory → Effect → ItemId × Bool
 put_result held effect = (item_id (touched held effect), is_made effect)
-
--- why something is not given that may be there
-abbrev pub missing : {T : Type 0} → Option T → Option StoreFault
-missing None = Some NotFound
-missing (Some x) = None

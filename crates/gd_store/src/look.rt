@@ -2,7 +2,7 @@ ghost use Rattle.std.specs.Prelude.{◌≡◌, map, IfOk};
 ghost use Rattle.std.specs.Option.{option_copied};
 ghost use Rattle.gd_item.specs.Nodes.{live_node, is_folder, child_at, number_at};
 ghost use Rattle.gd_item.specs.Inventory.{changed, with_bytes};
-ghost use Rattle.gd_item.specs.Records.{live_at};
+ghost use Rattle.gd_item.specs.Inventory.{live_at};
 ghost use Rattle.gd_item.specs.Refusals.{is_there, live_named, siblings_in};
 
 use gd_item::LiveItem;

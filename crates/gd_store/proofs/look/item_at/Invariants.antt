@@ -1,5 +1,5 @@
 use Rattle.std.proofs.Common.{◌≡◌, drop}
-use Rattle.gd_item.specs.Records.{live_at}
+use Rattle.gd_item.specs.Inventory.{live_at}
 use Rattle.gd_store.proofs.look.item_at.Given as goal
 
 abbrev pub invariant-loop-item : goal.invariant-loop-item
