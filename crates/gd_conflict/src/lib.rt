@@ -5,6 +5,7 @@ ghost use Rattle.std.specs.Prelude.{◌≡◌, ◌<◌, length, IfOk};
 ghost use Rattle.std.specs.Option.{option_copied};
 ghost use Rattle.gd_names.specs.Settling.{sibling_named, settled};
 
+pub mod instances;
 pub mod laws;
 mod rename;
 #[cfg(test)]

@@ -5,3 +5,4 @@ pub mod Components
 pub mod Verdict
 pub mod Bad
 pub mod Further
+pub mod Keeping

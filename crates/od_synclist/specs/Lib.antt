@@ -1,3 +1,4 @@
+pub mod Kept
 pub mod Matching
 pub mod Rules
 pub mod Search

@@ -1,11 +1,17 @@
 //! Laws of the rules, each the contract of a function that does nothing.
-ghost use Rattle.std.specs.Prelude.{◌≡◌, ℕ, Bool, true, false, List, [], ◌∷◌, ◌++◌};
+ghost use Rattle.std.specs.Prelude.{◌≡◌, ℕ, Bool, true, false, List, [], ◌∷◌, ◌++◌, Option};
+ghost use Rattle.od_synclist.specs.Kept.{kept};
 ghost use Rattle.od_synclist.specs.Rules.{passes, passes_file, is_excluded};
 ghost use Rattle.od_synclist.specs.declared.rule.Rule.{Rule};
 
 /// Under an empty file all passes.
 pub fn no_rules_pass_all()
     ensures { (names : List (List ℕ)) (folder : Bool) → passes_file [] names folder ≡ true }
+{}
+
+/// Without rules the whole tree is kept.
+pub fn no_rules_keep_all()
+    ensures { (tree : List (List (List ℕ) × Option (List ℕ))) → kept [] tree ≡ tree }
 {}
 
 /// A further exclusion, wherever it stands, lets nothing more through.
