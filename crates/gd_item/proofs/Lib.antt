@@ -4,4 +4,5 @@ pub mod Effects
 pub mod Hex
 pub mod Pairs
 pub mod Quotes
+pub mod Reaching
 pub mod Soundness
