@@ -6,4 +6,5 @@ pub mod Moving
 pub mod Pairs
 pub mod Quotes
 pub mod Reaching
+pub mod Removing
 pub mod Soundness

@@ -1,0 +1,243 @@
+-- What a drive holds stays a tree where an item is removed in whose folder nothing stands, and so where all below an
+-- item are removed, the deepest first.
+use Rattle.std.proofs.Common.{◌≡◌, ◌≢◌, ℕ, ◌+◌, ◌<◌, ◌≤◌, zero, suc, Bool, true, false, ◌||◌, not, inl, inr, cond, nat_eq, List, [], ◌∷◌, ◌++◌, length, map, filter, is_some, Option, Some, None, refl, sym, ap, ◌∙◌, subst, arith}
+use Rattle.std.specs.List.{All, AllPairs, Contains}
+use Rattle.std.proofs.lemmas.Bool.{both_ways, cases_Bool, cases_eq, eq-eqb, eqb-true, eqb-false, false_from_ne_true, ne_eqb, not-true, or_cases, or_left, or_right}
+use Rattle.std.proofs.lemmas.List.{length-map}
+use Rattle.std.proofs.lemmas.List.Elements.{All-nil, All-cons, All-head, All-tail, All-weaker, All-filter, All-contains, All-contains_itself, filter_passes}
+use Rattle.std.proofs.lemmas.List.Kept.{AllPairs-filter}
+use Rattle.gd_item.specs.declared.live.LiveItem.{LiveItem}
+use Rattle.gd_item.specs.Inventory.{Inventory, Effect, Removed, after, after_all, inventory}
+use Rattle.gd_item.specs.Moves.{is_parent_such, is_node_such, is_in_within, is_in, depth_of_path, deepest_first, removal_order, remove_effects}
+use Rattle.gd_item.specs.Nodes.{Node, live_node, node_at, is_folder, is_some_folder, is_twin, path_of}
+use Rattle.gd_item.specs.Sound.{IsWithin, IsItemMap}
+use Rattle.gd_item.specs.Trees.{nodes_of}
+use Rattle.gd_item.proofs.Adding.{some-from}
+use Rattle.gd_item.proofs.Effects.{inventory-append, number-positive}
+use Rattle.gd_item.proofs.Pairs.{AllPairs-head, AllPairs-tail}
+use Rattle.gd_item.proofs.Reaching.{IsChild, Climbs, climb-of-path, reached}
+
+-- the items without that of a number
+abbrev pub without : ℕ → List LiveItem → List LiveItem
+without number items = filter (λ item. not (nat_eq item.number number)) items
+
+-- no item stands in the folder of a number
+abbrev pub IsEmpty : ℕ → List LiveItem → Type 0
+IsEmpty number items = All (λ item. nat_eq item.parent number ≡ false) items
+
+-- each other node stays
+other-left : (number other : ℕ) → nat_eq other number ≡ false → (items : List LiveItem) → node_at other (map live_node (without number items)) ≡ node_at other (map live_node items)
+other-left number other apart [] = refl
+other-left number other apart (item ∷ items) =
+    let rest : List LiveItem = without number items in
+    let left : node_at other (map live_node rest) ≡ node_at other (map live_node items) = other-left number other apart items in
+    (elim (nat_eq item.number number) as (λ b. nat_eq item.number number ≡ b
+      → node_at other (map live_node (cond (not b) (item ∷ rest) rest)) ≡ cond (nat_eq item.number other) (Some (live_node item)) (node_at other (map live_node items))) [
+      | true ↦ λ is.
+          let differs : nat_eq item.number other ≡ false =
+          ne_eqb item.number other (λ e. eqb-false other number apart (sym e ∙ eqb-true item.number number is)) in
+          left ∙ sym (ap (λ b. cond b (Some (live_node item)) (node_at other (map live_node items))) differs)
+      | false ↦ λ is. ap (λ o. cond (nat_eq item.number other) (Some (live_node item)) o) left
+    ]) refl
+
+-- the removed one is gone
+gone : (number : ℕ) (items : List LiveItem) → node_at number (map live_node (without number items)) ≡ None
+gone number [] = refl
+gone number (item ∷ items) =
+    let rest : List LiveItem = without number items in
+    (elim (nat_eq item.number number) as (λ b. nat_eq item.number number ≡ b → node_at number (map live_node (cond (not b) (item ∷ rest) rest)) ≡ None) [
+      | true ↦ λ is. gone number items
+      | false ↦ λ is. ap (λ b. cond b (Some (live_node item)) (node_at number (map live_node rest))) is ∙ gone number items
+    ]) refl
+
+-- no node stands in an empty folder
+not-under : (number other above : ℕ) (node : Node) (items : List LiveItem) → IsEmpty number items → node_at other (map live_node items) ≡ Some node → node.parent ≡ Some above → nat_eq above number ≡ false
+not-under number other above node [] empty found under = absurd cc
+not-under number other above node (item ∷ items) empty found under =
+    let P : LiveItem → Type 0 = λ x. nat_eq x.parent number ≡ false in
+    elim (nat_eq item.number other) as (λ b. cond b (Some (live_node item)) (node_at other (map live_node items)) ≡ Some node → nat_eq above number ≡ false) [
+      | true ↦ λ h.
+          let same : live_node item ≡ node = cc in
+          let parents : Some item.parent ≡ Some above = ap (λ (n : Node). n.parent) same ∙ under in
+          let parent : item.parent ≡ above = cc in
+          subst (λ n. nat_eq n number ≡ false) parent (All-head P item items empty)
+      | false ↦ λ h. not-under number other above node items (All-tail P item items empty) h under
+    ] found
+
+-- each other climbs as before
+climb-left : (number : ℕ) (items : List LiveItem) → IsEmpty number items → (depth other : ℕ) → nat_eq other number ≡ false → Climbs (map live_node items) depth other
+    → Climbs (map live_node (without number items)) depth other
+climb-left number items empty zero other apart climb = climb
+climb-left number items empty (suc depth) other apart climb =
+    let nodes : List Node = map live_node items in
+    let child : IsChild nodes other climb.0 = climb.1 in
+    let above : nat_eq climb.0 number ≡ false = not-under number other climb.0 child.node items empty child.found child.under in
+    (climb.0,
+     record {
+       not_root = child.not_root;
+       node = child.node;
+       found = other-left number other apart items ∙ child.found;
+       under = child.under;
+       folder = ap (λ o. nat_eq climb.0 1 || is_some_folder o) (other-left number climb.0 above items) ∙ child.folder;
+     },
+     climb-left number items empty depth climb.0 above climb.2)
+
+led-left : (held : Inventory) (number : ℕ) → IsItemMap held → IsEmpty number held.items → (other : ℕ) → is_some (node_at other (map live_node (without number held.items))) ≡ true
+    → is_some (path_of (map live_node (without number held.items)) other) ≡ true
+led-left held number sound empty other is =
+    let nodes : List Node = nodes_of held in
+    let left : List Node = map live_node (without number held.items) in
+    elim (cases_Bool (nat_eq other number)) [
+      | inl same ↦
+          let none : is_some (node_at other left) ≡ false =
+          subst (λ n. is_some (node_at n left) ≡ false) (sym (eqb-true other number same)) (ap is_some (gone number held.items)) in
+          absurd (both_ways (is_some (node_at other left)) none is)
+      | inr apart ↦
+          let found : (path : List (List ℕ)) × (path_of nodes other ≡ Some path) =
+          some-from (path_of nodes other) (sound.led other (sym (ap is_some (other-left number other apart held.items)) ∙ is)) in
+          let climb : (depth : ℕ) × (depth ≤ length nodes) × Climbs nodes depth other = climb-of-path nodes (length nodes) other found.0 found.1 in
+          ap is_some (reached left climb.0 other (climb-left number held.items empty climb.0 other apart climb.2)).1
+    ]
+
+-- a removed item, in whose folder nothing stands
+pub sound-removed : (held : Inventory) (number : ℕ) → IsItemMap held → 0 < held.number → All (λ (item : LiveItem). nat_eq item.parent number ≡ false) held.items → IsItemMap (after held (Removed number))
+sound-removed held number sound positive empty =
+    let keep : LiveItem → Bool = λ item. not (nat_eq item.number number) in
+    let grown : Inventory = after held (Removed number) in
+    record {
+      within = All-filter keep (IsWithin grown) held.items
+          (All-weaker (IsWithin held) (IsWithin grown)
+          (λ x h. record { above = h.above; below = h.below; later = h.later; done = let d : x.change ≤ held.number = h.done in omega arith }) held.items sound.within);
+      numbers = AllPairs-filter (λ (x y : LiveItem). x.number < y.number) keep held.items sound.numbers;
+      changes = AllPairs-filter (λ (x y : LiveItem). x.change ≢ y.change) keep held.items sound.changes;
+      led = led-left held number sound empty;
+      told_apart = AllPairs-filter (λ (x y : LiveItem). is_twin (live_node y) (live_node x) ≡ false) keep held.items sound.told_apart;
+    }
+
+-- each number in turn is that of a folder in which nothing is left
+abbrev pub IsOrdered : List LiveItem → List ℕ → Type 0
+IsOrdered items [] = Unit {0}
+IsOrdered items (number ∷ numbers) = IsEmpty number items × IsOrdered (without number items) numbers
+
+abbrev pub all_without : List ℕ → List LiveItem → List LiveItem
+all_without [] items = items
+all_without (number ∷ numbers) items = all_without numbers (without number items)
+
+-- items that are removed in such an order
+pub sound-removals : (held : Inventory) (numbers : List ℕ) → IsItemMap held → 0 < held.number → IsOrdered held.items numbers → IsItemMap (after_all held (map Removed numbers))
+sound-removals held [] sound positive ordered = sound
+sound-removals held (number ∷ numbers) sound positive ordered =
+    sound-removals (after held (Removed number)) numbers (sound-removed held number sound positive ordered.0) (omega arith) ordered.1
+
+ordered-append : (first second : List ℕ) (items : List LiveItem) → IsOrdered items first → IsOrdered (all_without first items) second → IsOrdered items (first ++ second)
+ordered-append [] second items a b = b
+ordered-append (number ∷ first) second items a b = (a.0, ordered-append first second (without number items) a.1 b)
+
+-- folders in which nothing stands, in any order
+ordered-level : (numbers : List ℕ) (items : List LiveItem) → All (λ item. All (λ number. nat_eq item.parent number ≡ false) numbers) items → IsOrdered items numbers
+ordered-level [] items empty = tt
+ordered-level (number ∷ numbers) items empty =
+    let P : LiveItem → Type 0 = λ item. All (λ n. nat_eq item.parent n ≡ false) (number ∷ numbers) in
+    let Q : LiveItem → Type 0 = λ item. All (λ n. nat_eq item.parent n ≡ false) numbers in
+    let rest : All Q items = All-weaker P Q (λ item h. All-tail (λ n. nat_eq item.parent n ≡ false) number numbers h) items empty in
+    (All-weaker P (λ item. nat_eq item.parent number ≡ false) (λ item h. All-head (λ n. nat_eq item.parent n ≡ false) number numbers h) items empty,
+     ordered-level numbers (without number items) (All-filter (λ item. not (nat_eq item.number number)) Q items rest))
+
+-- what is left has none of the numbers
+left-of : (P : LiveItem → Type 0) (numbers : List ℕ) (items : List LiveItem) → All P items → All (λ item. P item × All (λ n. nat_eq item.number n ≡ false) numbers) (all_without numbers items)
+left-of P [] items all = All-weaker P (λ item. P item × All (λ n. nat_eq item.number n ≡ false) []) (λ item h. (h, All-nil (λ n. nat_eq item.number n ≡ false))) items all
+left-of P (number ∷ numbers) items all =
+    let keep : LiveItem → Bool = λ item. not (nat_eq item.number number) in
+    let Q : LiveItem → Type 0 = λ item. P item × (not (nat_eq item.number number) ≡ true) in
+    let kept : All P (without number items) = All-filter keep P items all in
+    let passes : All (λ item. keep item ≡ true) (without number items) = filter_passes keep items in
+    let both : All Q (without number items) = λ k d lt. (kept k d lt, passes k d lt) in
+    let rest : All (λ item. Q item × All (λ n. nat_eq item.number n ≡ false) numbers) (all_without numbers (without number items)) = left-of Q numbers (without number items) both in
+    All-weaker (λ item. Q item × All (λ n. nat_eq item.number n ≡ false) numbers) (λ item. P item × All (λ n. nat_eq item.number n ≡ false) (number ∷ numbers))
+    (λ item h. (h.0.0, All-cons (λ n. nat_eq item.number n ≡ false) number numbers (not-true (nat_eq item.number number) h.0.1) h.1))
+    (all_without numbers (without number items)) rest
+
+-- what holds of all that a filter keeps holds where its test does
+kept-back : (test : ℕ → Bool) (P : ℕ → Type 0) (numbers : List ℕ) → All P (filter test numbers) → All (λ n. test n ≡ true → P n) numbers
+kept-back test P [] all = All-nil (λ n. test n ≡ true → P n)
+kept-back test P (number ∷ numbers) all =
+    (elim (test number) as (λ b. test number ≡ b → All P (cond b (number ∷ filter test numbers) (filter test numbers)) → All (λ n. test n ≡ true → P n) (number ∷ numbers)) [
+      | true ↦ λ is all. All-cons (λ n. test n ≡ true → P n) number numbers (λ h. All-head P number (filter test numbers) all)
+          (kept-back test P numbers (All-tail P number (filter test numbers) all))
+      | false ↦ λ is all. All-cons (λ n. test n ≡ true → P n) number numbers (λ h. absurd (both_ways (test number) is h)) (kept-back test P numbers all)
+    ]) refl all
+
+numbers-back : (P : ℕ → Type 0) (items : List LiveItem) → All P (map (λ (x : LiveItem). x.number) items) → All (λ x. P x.number) items
+numbers-back P [] all = All-nil (λ x. P x.number)
+numbers-back P (item ∷ items) all =
+    let rest : List ℕ = map (λ (x : LiveItem). x.number) items in
+    All-cons (λ x. P x.number) item items (All-head P item.number rest all) (numbers-back P items (All-tail P item.number rest all))
+
+-- an item is found by its number
+found-by-number : (items : List LiveItem) → AllPairs (λ (x y : LiveItem). x.number < y.number) items → All (λ x. node_at x.number (map live_node items) ≡ Some (live_node x)) items
+found-by-number [] pairs = All-nil (λ x. node_at x.number (map live_node []) ≡ Some (live_node x))
+found-by-number (item ∷ items) pairs =
+    let R : LiveItem → LiveItem → Type 0 = λ x y. x.number < y.number in
+    let P : LiveItem → Type 0 = λ x. node_at x.number (map live_node (item ∷ items)) ≡ Some (live_node x) in
+    let Q : LiveItem → Type 0 = λ x. node_at x.number (map live_node items) ≡ Some (live_node x) in
+    let above : All (R item) items = AllPairs-head R item items pairs in
+    let rest : All Q items = found-by-number items (AllPairs-tail R item items pairs) in
+    let both : All (λ x. R item x × Q x) items = λ k d lt. (above k d lt, rest k d lt) in
+    All-cons P item items (ap (λ b. cond b (Some (live_node item)) (node_at item.number (map live_node items))) (eq-eqb item.number item.number refl))
+    (All-weaker (λ x. R item x × Q x) P
+    (λ x h.
+      let lt : item.number < x.number = h.0 in
+      ap (λ b. cond b (Some (live_node item)) (node_at x.number (map live_node items))) (ne_eqb item.number x.number (λ e. omega arith)) ∙ h.1)
+    items both)
+
+-- the root is no item
+root-free : (items : List LiveItem) → All (λ x. 1 < x.number) items → node_at 1 (map live_node items) ≡ None
+root-free [] above = refl
+root-free (item ∷ items) above =
+    let P : LiveItem → Type 0 = λ x. 1 < x.number in
+    let lt : 1 < item.number = All-head P item items above in
+    ap (λ b. cond b (Some (live_node item)) (node_at 1 (map live_node items))) (ne_eqb item.number 1 (λ e. omega arith)) ∙ root-free items (All-tail P item items above)
+
+-- what a test of the folder above says
+above-says : (nodes : List Node) (test : ℕ → Bool) (number parent : ℕ) → IsChild nodes number parent → is_node_such test (node_at number nodes) ≡ test parent
+above-says nodes test number parent child = ap (is_node_such test) child.found ∙ ap (is_parent_such test) child.under
+
+-- as many steps as the depth tell whether a number stands below another
+in-shallow : (nodes : List Node) (top : ℕ) → node_at 1 nodes ≡ None → (depth steps number : ℕ) → Climbs nodes depth number → is_in_within steps nodes top number ≡ true
+    → is_in_within depth nodes top number ≡ true
+in-shallow nodes top free zero zero number climb h = h
+in-shallow nodes top free zero (suc steps) number climb h =
+    let test : ℕ → Bool = is_in_within steps nodes top in
+    elim (or_cases (nat_eq number top) (is_node_such test (node_at number nodes)) h) [
+      | inl is ↦ is
+      | inr is ↦
+          let root : 1 ≡ number = sym (eqb-true number 1 climb) in
+          let none : is_node_such test (node_at number nodes) ≡ false = ap (is_node_such test) (subst (λ n. node_at n nodes ≡ None) root free) in
+          absurd (both_ways (is_node_such test (node_at number nodes)) none is)
+    ]
+in-shallow nodes top free (suc depth) zero number climb h = or_left (nat_eq number top) (is_node_such (is_in_within depth nodes top) (node_at number nodes)) h
+in-shallow nodes top free (suc depth) (suc steps) number climb h =
+    let test : ℕ → Bool = is_in_within steps nodes top in
+    let less : ℕ → Bool = is_in_within depth nodes top in
+    elim (or_cases (nat_eq number top) (is_node_such test (node_at number nodes)) h) [
+      | inl is ↦ or_left (nat_eq number top) (is_node_such less (node_at number nodes)) is
+      | inr is ↦
+          let rest : less climb.0 ≡ true = in-shallow nodes top free depth steps climb.0 climb.2 (sym (above-says nodes test number climb.0 climb.1) ∙ is) in
+          or_right (nat_eq number top) (is_node_such less (node_at number nodes)) (above-says nodes less number climb.0 climb.1 ∙ rest)
+    ]
+
+-- what as many steps as the depth tell, more steps tell too
+in-grown : (nodes : List Node) (top depth steps more number : ℕ) → Climbs nodes depth number → steps ≤ depth → steps ≤ more → is_in_within steps nodes top number ≡ true → is_in_within more nodes top number ≡ true
+in-grown nodes top depth zero zero number climb few le h = h
+in-grown nodes top depth zero (suc more) number climb few le h = or_left (nat_eq number top) (is_node_such (is_in_within more nodes top) (node_at number nodes)) h
+in-grown nodes top depth (suc steps) zero number climb few le h = absurd (omega arith)
+in-grown nodes top zero (suc steps) (suc more) number climb few le h = absurd (omega arith)
+in-grown nodes top (suc depth) (suc steps) (suc more) number climb few le h =
+    let test : ℕ → Bool = is_in_within steps nodes top in
+    let further : ℕ → Bool = is_in_within more nodes top in
+    elim (or_cases (nat_eq number top) (is_node_such test (node_at number nodes)) h) [
+      | inl is ↦ or_left (nat_eq number top) (is_node_such further (node_at number nodes)) is
+      | inr is ↦
+          let rest : further climb.0 ≡ true = in-grown nodes top depth steps more climb.0 climb.2 (omega arith) (omega arith) (sym (above-says nodes test number climb.0 climb.1) ∙ is) in
+          or_right (nat_eq number top) (is_node_such further (node_at number nodes)) (above-says nodes further number climb.0 climb.1 ∙ rest)
+    ]
