@@ -241,3 +241,143 @@ in-grown nodes top (suc depth) (suc steps) (suc more) number climb few le h =
           let rest : further climb.0 ≡ true = in-grown nodes top depth steps more climb.0 climb.2 (omega arith) (omega arith) (sym (above-says nodes test number climb.0 climb.1) ∙ is) in
           or_right (nat_eq number top) (is_node_such further (node_at number nodes)) (above-says nodes further number climb.0 climb.1 ∙ rest)
     ]
+
+-- how deep a number is
+abbrev pub depth_in : List Node → ℕ → ℕ
+depth_in nodes n = depth_of_path (path_of nodes n)
+
+depth-of-climb : (nodes : List Node) (depth number : ℕ) → Climbs nodes depth number → depth_in nodes number ≡ depth
+depth-of-climb nodes depth number climb =
+    let found : (path : List (List ℕ)) × (path_of nodes number ≡ Some path) × (length path ≡ depth) = reached nodes depth number climb in
+    ap depth_of_path found.1 ∙ found.2
+
+-- how an item climbs
+pub item-climbs : (held : Inventory) (item : LiveItem) → IsItemMap held → Contains held.items item → (depth : ℕ) × (suc depth ≤ length (nodes_of held)) × Climbs (nodes_of held) (suc depth) item.number × Climbs (nodes_of held) depth item.parent
+item-climbs held item sound among =
+    let nodes : List Node = nodes_of held in
+    let within : IsWithin held item = All-contains (IsWithin held) held.items item sound.within among in
+    let found : node_at item.number nodes ≡ Some (live_node item) =
+    All-contains (λ x. node_at x.number nodes ≡ Some (live_node x)) held.items item (found-by-number held.items sound.numbers) among in
+    let path : (path : List (List ℕ)) × (path_of nodes item.number ≡ Some path) = some-from (path_of nodes item.number) (sound.led item.number (ap is_some found)) in
+    let climb : (depth : ℕ) × (depth ≤ length nodes) × Climbs nodes depth item.number = climb-of-path nodes (length nodes) item.number path.0 path.1 in
+    (elim climb.0 as (λ d. d ≤ length nodes → Climbs nodes d item.number → (depth : ℕ) × (suc depth ≤ length nodes) × Climbs nodes (suc depth) item.number × Climbs nodes depth item.parent) [
+      | zero ↦ λ le climb.
+          let above : 1 < item.number = within.above in
+          absurd (let e : item.number ≡ 1 = eqb-true item.number 1 climb in omega arith)
+      | suc depth ↦ λ le climb.
+          let same : Some climb.1.node ≡ Some (live_node item) = sym climb.1.found ∙ found in
+          let node : climb.1.node ≡ live_node item = cc in
+          let parents : Some climb.0 ≡ Some item.parent = sym climb.1.under ∙ ap (λ (n : Node). n.parent) node in
+          let parent : climb.0 ≡ item.parent = cc in
+          (depth, le, climb, subst (Climbs nodes depth) parent climb.2)
+    ]) climb.1 climb.2
+
+-- an item in a folder that stands in the top, or is the top, stands in the top and is one deeper
+below-top : (held : Inventory) (top : ℕ) (item : LiveItem) → IsItemMap held → Contains held.items item → is_in (nodes_of held) top item.parent ≡ true
+    → (is_in (nodes_of held) top item.number ≡ true) × (depth_in (nodes_of held) item.number ≡ suc (depth_in (nodes_of held) item.parent))
+below-top held top item sound among is =
+    let nodes : List Node = nodes_of held in
+    let climb : (depth : ℕ) × (suc depth ≤ length nodes) × Climbs nodes (suc depth) item.number × Climbs nodes depth item.parent = item-climbs held item sound among in
+    let free : node_at 1 nodes ≡ None = root-free held.items (All-weaker (IsWithin held) (λ x. 1 < x.number) (λ x h. h.above) held.items sound.within) in
+    let shallow : is_in_within climb.0 nodes top item.parent ≡ true = in-shallow nodes top free climb.0 (length nodes) item.parent climb.3 is in
+    let child : IsChild nodes item.number climb.2.0 = climb.2.1 in
+    let found : node_at item.number nodes ≡ Some (live_node item) =
+    All-contains (λ x. node_at x.number nodes ≡ Some (live_node x)) held.items item (found-by-number held.items sound.numbers) among in
+    let said : is_node_such (is_in_within climb.0 nodes top) (node_at item.number nodes) ≡ is_in_within climb.0 nodes top item.parent = ap (is_node_such (is_in_within climb.0 nodes top)) found in
+    let here : is_in_within (suc climb.0) nodes top item.number ≡ true =
+    or_right (nat_eq item.number top) (is_node_such (is_in_within climb.0 nodes top) (node_at item.number nodes)) (said ∙ shallow) in
+    (in-grown nodes top (suc climb.0) (suc climb.0) (length nodes) item.number climb.2 (omega arith) climb.1 here,
+     depth-of-climb nodes (suc climb.0) item.number climb.2 ∙ ap suc (sym (depth-of-climb nodes climb.0 item.parent climb.3)))
+
+-- what is left when all below the top are removed that are at least so deep
+abbrev IsLeft : Inventory → ℕ → ℕ → LiveItem → Type 0
+IsLeft held top bound item = Contains held.items item × (is_in (nodes_of held) top item.number ≡ true → depth_in (nodes_of held) item.number < bound)
+
+-- the numbers that stand in the top
+abbrev numbers_in : Inventory → ℕ → List ℕ
+numbers_in held top = filter (λ n. is_in (nodes_of held) top n) (map (λ (item : LiveItem). item.number) held.items)
+
+-- those of one depth
+abbrev level_of : Inventory → ℕ → ℕ → List ℕ
+level_of held top bound = filter (λ n. nat_eq (depth_in (nodes_of held) n) bound) (numbers_in held top)
+
+level-says : (held : Inventory) (top bound : ℕ) → All (λ n. (is_in (nodes_of held) top n ≡ true) × (nat_eq (depth_in (nodes_of held) n) bound ≡ true)) (level_of held top bound)
+level-says held top bound =
+    let inside : ℕ → Bool = λ n. is_in (nodes_of held) top n in
+    let deep : ℕ → Bool = λ n. nat_eq (depth_in (nodes_of held) n) bound in
+    let numbers : List ℕ = numbers_in held top in
+    let a : All (λ n. inside n ≡ true) numbers = filter_passes inside (map (λ (item : LiveItem). item.number) held.items) in
+    let b : All (λ n. inside n ≡ true) (filter deep numbers) = All-filter deep (λ n. inside n ≡ true) numbers a in
+    let c : All (λ n. deep n ≡ true) (filter deep numbers) = filter_passes deep numbers in
+    λ k d lt. (b k d lt, c k d lt)
+
+-- no deeper item is left, so these folders are empty
+level-empty : (held : Inventory) (top bound : ℕ) → IsItemMap held → (item : LiveItem) → IsLeft held top (suc bound) item → All (λ n. nat_eq item.parent n ≡ false) (level_of held top bound)
+level-empty held top bound sound item left =
+    let nodes : List Node = nodes_of held in
+    All-weaker (λ n. (is_in nodes top n ≡ true) × (nat_eq (depth_in nodes n) bound ≡ true)) (λ n. nat_eq item.parent n ≡ false)
+    (λ n h. false_from_ne_true (nat_eq item.parent n) (λ is.
+      let same : n ≡ item.parent = sym (eqb-true item.parent n is) in
+      let inside : is_in nodes top item.parent ≡ true = subst (λ m. is_in nodes top m ≡ true) same h.0 in
+      let deep : depth_in nodes item.parent ≡ bound = subst (λ m. depth_in nodes m ≡ bound) same (eqb-true (depth_in nodes n) bound h.1) in
+      let below : (is_in nodes top item.number ≡ true) × (depth_in nodes item.number ≡ suc (depth_in nodes item.parent)) = below-top held top item sound left.0 inside in
+      let deeper : depth_in nodes item.number ≡ suc (depth_in nodes item.parent) = below.1 in
+      let lt : depth_in nodes item.number < suc bound = left.1 below.0 in
+      absurd (omega arith)))
+    (level_of held top bound) (level-says held top bound)
+
+-- once those of one depth are removed, none of this depth is left
+level-gone : (held : Inventory) (top bound : ℕ) (item : LiveItem) → IsLeft held top (suc bound) item → All (λ n. nat_eq item.number n ≡ false) (level_of held top bound) → IsLeft held top bound item
+level-gone held top bound item left apart =
+    let nodes : List Node = nodes_of held in
+    let inside : ℕ → Bool = λ n. is_in nodes top n in
+    let deep : ℕ → Bool = λ n. nat_eq (depth_in nodes n) bound in
+    let P : ℕ → Type 0 = λ n. nat_eq item.number n ≡ false in
+    let a : All (λ n. deep n ≡ true → P n) (numbers_in held top) = kept-back deep P (numbers_in held top) apart in
+    let b : All (λ n. inside n ≡ true → deep n ≡ true → P n) (map (λ (x : LiveItem). x.number) held.items) =
+    kept-back inside (λ n. deep n ≡ true → P n) (map (λ (x : LiveItem). x.number) held.items) a in
+    let c : All (λ x. inside x.number ≡ true → deep x.number ≡ true → P x.number) held.items = numbers-back (λ n. inside n ≡ true → deep n ≡ true → P n) held.items b in
+    let own : inside item.number ≡ true → deep item.number ≡ true → P item.number =
+    All-contains (λ x. inside x.number ≡ true → deep x.number ≡ true → P x.number) held.items item c left.0 in
+    (left.0,
+     λ is.
+     let lt : depth_in nodes item.number < suc bound = left.1 is in
+     elim (cases_eq (depth_in nodes item.number) bound) [
+       | inl same ↦ absurd (both_ways (nat_eq item.number item.number) (own is (eq-eqb (depth_in nodes item.number) bound same)) (eq-eqb item.number item.number refl))
+       | inr other ↦ omega arith
+     ])
+
+ordered-levels : (held : Inventory) (top : ℕ) → IsItemMap held → (bound : ℕ) (items : List LiveItem) → All (IsLeft held top bound) items → IsOrdered items (deepest_first bound (depth_in (nodes_of held)) (numbers_in held top))
+ordered-levels held top sound zero items left = tt
+ordered-levels held top sound (suc bound) items left =
+    let level : List ℕ = level_of held top bound in
+    let P : LiveItem → Type 0 = IsLeft held top (suc bound) in
+    let gone : All (λ item. P item × All (λ n. nat_eq item.number n ≡ false) level) (all_without level items) = left-of P level items left in
+    ordered-append level (deepest_first bound (depth_in (nodes_of held)) (numbers_in held top)) items
+    (ordered-level level items (All-weaker P (λ item. All (λ n. nat_eq item.parent n ≡ false) level) (level-empty held top bound sound) items left))
+    (ordered-levels held top sound bound (all_without level items)
+    (All-weaker (λ item. P item × All (λ n. nat_eq item.number n ≡ false) level) (IsLeft held top bound) (λ item h. level-gone held top bound item h.0 h.1) (all_without level items) gone))
+
+-- the order of the removals is such an order
+pub removal-ordered : (held : Inventory) (number : ℕ) → IsItemMap held → IsOrdered held.items (removal_order held number)
+removal-ordered held number sound =
+    let nodes : List Node = nodes_of held in
+    let long : length nodes ≡ length held.items = length-map held.items live_node in
+    ordered-levels held number sound (length held.items + 1) held.items
+    (All-weaker (Contains held.items) (IsLeft held number (length held.items + 1))
+    (λ item among.
+      let climb : (depth : ℕ) × (suc depth ≤ length nodes) × Climbs nodes (suc depth) item.number × Climbs nodes depth item.parent = item-climbs held item sound among in
+      let deep : depth_in nodes item.number ≡ suc climb.0 = depth-of-climb nodes (suc climb.0) item.number climb.2 in
+      let le : suc climb.0 ≤ length nodes = climb.1 in
+      (among, λ is. omega arith))
+    held.items (All-contains_itself held.items))
+
+-- an item that is removed with all below it
+pub sound-removed-all : (held : Inventory) (number : ℕ) → IsItemMap held → 0 < held.number → nat_eq number 1 ≡ false → IsItemMap (after_all held (remove_effects held number))
+sound-removed-all held number sound positive not_root = sound-removals held (removal_order held number) sound positive (removal-ordered held number sound)
+
+-- the same of what a drive holds whose effects are these
+pub sound-removed-log : (effects : List Effect) (number : ℕ) → IsItemMap (inventory effects) → nat_eq number 1 ≡ false → IsItemMap (inventory (effects ++ remove_effects (inventory effects) number))
+sound-removed-log effects number sound not_root =
+    subst IsItemMap (sym (inventory-append effects (remove_effects (inventory effects) number)))
+    (sound-removed-all (inventory effects) number sound (number-positive effects) not_root)
