@@ -1,8 +1,8 @@
 -- What a drive holds stays a tree where an item is moved: its new folder is there and does not stand below it, and
 -- no other item of that folder has its new name.
-use Rattle.std.proofs.Common.{◌≡◌, ◌≢◌, ℕ, ◌+◌, ◌<◌, ◌≤◌, zero, suc, Bool, true, false, ◌&&◌, ◌||◌, not, inl, inr, cond, nat_eq, nat_lt, List, [], ◌∷◌, ◌++◌, length, map, is_some, Option, Some, None, refl, sym, ap, ◌∙◌, subst, arith}
+use Rattle.std.proofs.Common.{◌≡◌, ◌≢◌, ℕ, ◌+◌, ◌<◌, ◌≤◌, zero, suc, Bool, true, false, ◌&&◌, ◌||◌, not, inl, inr, cond, nat_eq, nat_lt, List, [], ◌∷◌, ◌++◌, length, map, is_some, Option, Some, refl, sym, ap, ◌∙◌, subst, arith}
 use Rattle.std.specs.List.{All, list_any}
-use Rattle.std.proofs.lemmas.Bool.{both_ways, cases_Bool, eq-eqb, eqb-true, eqb-false, false_from_ne_true, le-ltb, ne_eqb, or_parts}
+use Rattle.std.proofs.lemmas.Bool.{both_ways, cases_Bool, eqb-true, eqb-false, false_from_ne_true, le-ltb, ne_eqb, or_parts}
 use Rattle.std.proofs.lemmas.Cmp.{nat_eq_equiv, nat_list_eq_equiv}
 use Rattle.std.proofs.lemmas.List.Elements.{All-weaker}
 use Rattle.std.proofs.lemmas.List.Folds.{list_any_at}
@@ -10,11 +10,11 @@ use Rattle.gd_names.specs.Caseless.{lower_case, equal_caseless}
 use Rattle.gd_item.specs.declared.live.LiveItem.{LiveItem}
 use Rattle.gd_item.specs.Inventory.{Inventory, Effect, Moved, with_place, changed, after, inventory}
 use Rattle.gd_item.specs.Moves.{is_parent_such, is_node_such, is_in_within, is_in, is_taken_by_other}
-use Rattle.gd_item.specs.Nodes.{Node, live_node, node_at, is_folder, is_some_folder, is_twin, path_of, path_within}
+use Rattle.gd_item.specs.Nodes.{Node, live_node, node_at, is_folder, is_some_folder, is_twin, path_of}
 use Rattle.gd_item.specs.Refusals.{is_there}
 use Rattle.gd_item.specs.Sound.{IsWithin, IsItemMap}
 use Rattle.gd_item.specs.Trees.{nodes_of}
-use Rattle.gd_item.proofs.Adding.{has_name_in, led-there, some-from}
+use Rattle.gd_item.proofs.Adding.{led-there, some-from}
 use Rattle.gd_item.proofs.Effects.{inventory-snoc, number-positive}
 use Rattle.gd_item.proofs.Pairs.{AllPairs-same_map, AllPairs-changed, AllPairs-changed_at, All-changed, numbers-changed}
 use Rattle.gd_item.proofs.Reaching.{IsChild, Climbs, climb-of-path, reached}
@@ -36,7 +36,7 @@ other-kept number change parent name other apart (item ∷ items) =
     let f : LiveItem → LiveItem = with_place change parent name in
     let rest : Option Node = node_at other (map live_node items) in
     (elim (nat_eq item.number number) as (λ b. nat_eq item.number number ≡ b
-      → node_at other (map live_node (cond b (f item ∷ items) (item ∷ changed number f items))) ≡ cond (nat_eq item.number other) (Some (live_node item)) rest) [
+    → node_at other (map live_node (cond b (f item ∷ items) (item ∷ changed number f items))) ≡ cond (nat_eq item.number other) (Some (live_node item)) rest) [
       | true ↦ λ is.
           let differs : nat_eq item.number other ≡ false =
           ne_eqb item.number other (λ e. eqb-false other number apart (sym e ∙ eqb-true item.number number is)) in
@@ -51,7 +51,7 @@ moved-at number change parent name [] node h = absurd cc
 moved-at number change parent name (item ∷ items) node h =
     let f : LiveItem → LiveItem = with_place change parent name in
     (elim (nat_eq item.number number) as (λ b. nat_eq item.number number ≡ b → cond b (Some (live_node item)) (node_at number (map live_node items)) ≡ Some node
-      → node_at number (map live_node (cond b (f item ∷ items) (item ∷ changed number f items))) ≡ Some (placed_at parent name node)) [
+    → node_at number (map live_node (cond b (f item ∷ items) (item ∷ changed number f items))) ≡ Some (placed_at parent name node)) [
       | true ↦ λ is h.
           let same : live_node item ≡ node = cc in
           ap (λ b. cond b (Some (live_node (f item))) (node_at number (map live_node items))) is ∙ ap (λ n. Some (placed_at parent name n)) same
@@ -101,9 +101,11 @@ apart-climb number change parent name items (suc depth) (suc steps) other le cli
     let test : ℕ → Bool = is_in_within steps nodes number in
     let child : IsChild nodes other climb.0 = climb.1 in
     let both : (nat_eq other number ≡ false) × (is_node_such test (node_at other nodes) ≡ false) = or_parts (nat_eq other number) (is_node_such test (node_at other nodes)) apart in
-    let above : is_node_such test (node_at other nodes) ≡ test climb.0 = ap (is_node_such test) child.found ∙ ap (is_parent_such test) child.under in
-    (climb.0, child-kept number change parent name items other climb.0 both.0 child,
-     apart-climb number change parent name items depth steps climb.0 (omega arith) climb.2 (sym above ∙ both.1))
+    let above : is_node_such test (node_at other nodes) ≡ test climb.0 = ap (is_node_such test) child.found ∙ ap (is_parent_such test) child.under in (
+      climb.0,
+      child-kept number change parent name items other climb.0 both.0 child,
+      apart-climb number change parent name items depth steps climb.0 (omega arith) climb.2 (sym above ∙ both.1),
+    )
 
 -- where the new folder climbs, all that climbed still climbs
 climb-moved : (number change parent : ℕ) (name : List ℕ) (items : List LiveItem) (high : ℕ) → Climbs (moved number change parent name items) high parent → is_folder parent (map live_node items) ≡ true
@@ -117,10 +119,14 @@ climb-moved number change parent name items high above folder (suc depth) other 
       | inl is ↦
           let same : number ≡ other = sym (eqb-true other number is) in
           let found : node_at other more ≡ Some (placed_at parent name child.node) =
-          subst (λ n. node_at n nodes ≡ Some child.node → node_at n more ≡ Some (placed_at parent name child.node)) same (moved-at number change parent name items child.node) child.found in
-          (suc high, (parent,
-           record { not_root = child.not_root; node = placed_at parent name child.node; found = found; under = refl; folder = folder-moved number change parent name parent items ∙ folder },
-           above))
+          subst (λ n. node_at n nodes ≡ Some child.node → node_at n more ≡ Some (placed_at parent name child.node)) same (moved-at number change parent name items child.node) child.found in (
+            suc high,
+            (
+              parent,
+              record { not_root = child.not_root; node = placed_at parent name child.node; found = found; under = refl; folder = folder-moved number change parent name parent items ∙ folder },
+              above,
+            ),
+          )
       | inr apart ↦
           let rest : (new : ℕ) × Climbs more new climb.0 = climb-moved number change parent name items high above folder depth climb.0 climb.2 in
           (suc rest.0, (climb.0, child-kept number change parent name items other climb.0 apart child, rest.1))
@@ -186,10 +192,9 @@ free-of number parent name items free k d lt =
     let test : LiveItem → Bool = λ item. nat_eq item.parent parent && not (nat_eq item.number number) && equal_caseless item.name name in
     false_from_ne_true _ (λ h. both_ways (list_any test items) free (list_any_at test items k d lt h))
 
--- a moved item
-pub sound-moved : (held : Inventory) (number parent : ℕ) (name : List ℕ) → IsItemMap held → 0 < held.number → nat_eq number 1 ≡ false → is_there parent (nodes_of held) ≡ true
-    → is_folder parent (nodes_of held) ≡ true → is_in (nodes_of held) number parent ≡ false → is_taken_by_other number parent name held.items ≡ false → IsItemMap (after held (Moved number parent name))
-sound-moved held number parent name sound positive not_root there folder apart free =
+sound-move : (held : Inventory) (number parent : ℕ) (name : List ℕ) → IsItemMap held → 0 < held.number → is_there parent (nodes_of held) ≡ true → is_folder parent (nodes_of held) ≡ true
+    → is_in (nodes_of held) number parent ≡ false → is_taken_by_other number parent name held.items ≡ false → IsItemMap (after held (Moved number parent name))
+sound-move held number parent name sound positive there folder apart free =
     let change : ℕ = held.number + 1 in
     let f : LiveItem → LiveItem = with_place change parent name in
     let grown : Inventory = after held (Moved number parent name) in
@@ -208,15 +213,20 @@ sound-moved held number parent name sound positive not_root there folder apart f
       told_apart = AllPairs-changed_at (λ (x y : LiveItem). is_twin (live_node y) (live_node x) ≡ false) number f held.items
           (All-weaker (λ item. (nat_eq item.parent parent && not (nat_eq item.number number) && equal_caseless item.name name) ≡ false)
           (λ item. (other : LiveItem) → nat_eq other.number number ≡ true
-            → (is_twin (live_node item) (live_node (f other)) ≡ false) × (is_twin (live_node (f other)) (live_node item) ≡ false))
+          → (is_twin (live_node item) (live_node (f other)) ≡ false) × (is_twin (live_node (f other)) (live_node item) ≡ false))
           (apart-moved number change parent name) held.items (free-of number parent name held.items free))
           sound.told_apart;
     }
 
+-- a moved item
+pub sound-moved : (held : Inventory) (number parent : ℕ) (name : List ℕ) → IsItemMap held → 0 < held.number → nat_eq number 1 ≡ false → is_there parent (nodes_of held) ≡ true
+    → is_folder parent (nodes_of held) ≡ true → is_in (nodes_of held) number parent ≡ false → is_taken_by_other number parent name held.items ≡ false → IsItemMap (after held (Moved number parent name))
+sound-moved held number parent name sound positive not_root there folder apart free = sound-move held number parent name sound positive there folder apart free
+
 -- the same of what a drive holds whose effects are these
-pub sound-moved-log : (effects : List Effect) (number parent : ℕ) (name : List ℕ) → IsItemMap (inventory effects) → nat_eq number 1 ≡ false → is_there parent (nodes_of (inventory effects)) ≡ true
+pub sound-moved-log : (effects : List Effect) (number parent : ℕ) (name : List ℕ) → IsItemMap (inventory effects) → is_there parent (nodes_of (inventory effects)) ≡ true
     → is_folder parent (nodes_of (inventory effects)) ≡ true → is_in (nodes_of (inventory effects)) number parent ≡ false
     → is_taken_by_other number parent name (inventory effects).items ≡ false → IsItemMap (inventory (effects ++ Moved number parent name ∷ []))
-sound-moved-log effects number parent name sound not_root there folder apart free =
+sound-moved-log effects number parent name sound there folder apart free =
     subst IsItemMap (sym (inventory-snoc effects (Moved number parent name)))
-    (sound-moved (inventory effects) number parent name sound (number-positive effects) not_root there folder apart free)
+    (sound-move (inventory effects) number parent name sound (number-positive effects) there folder apart free)

@@ -71,14 +71,15 @@ path-of-climb nodes (suc depth) number climb =
     let child : IsChild nodes number parent = climb.1 in
     let read : ℕ → Option (List (List ℕ)) = path_within depth nodes in
     let rest : (path : List (List ℕ)) × (path_within depth nodes parent ≡ Some path) × (length path ≡ depth) = path-of-climb nodes depth parent climb.2 in
-    let name : List ℕ = child.node.name in
-    (rest.0 ++ name ∷ [],
-     ap (λ b. cond b (Some []) (path_of_node read nodes (node_at number nodes))) child.not_root
-     ∙ ap (path_of_node read nodes) child.found
-     ∙ ap (below_parent read nodes name) child.under
-     ∙ ap (λ b. cond b (below (read parent) name) None) child.folder
-     ∙ ap (λ p. below p name) rest.1,
-     length_push rest.0 name ∙ add-one (length rest.0) ∙ ap suc rest.2)
+    let name : List ℕ = child.node.name in (
+      rest.0 ++ name ∷ [],
+      ap (λ b. cond b (Some []) (path_of_node read nodes (node_at number nodes))) child.not_root
+          ∙ ap (path_of_node read nodes) child.found
+          ∙ ap (below_parent read nodes name) child.under
+          ∙ ap (λ b. cond b (below (read parent) name) None) child.folder
+          ∙ ap (λ p. below p name) rest.1,
+      length_push rest.0 name ∙ add-one (length rest.0) ∙ ap suc rest.2,
+    )
 
 -- a path within fewer steps is one within more
 pub path-grown : (nodes : List Node) (steps more number : ℕ) (path : List (List ℕ)) → steps ≤ more → path_within steps nodes number ≡ Some path → path_within more nodes number ≡ Some path

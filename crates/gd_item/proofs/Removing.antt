@@ -1,6 +1,6 @@
 -- What a drive holds stays a tree where an item is removed in whose folder nothing stands, and so where all below an
 -- item are removed, the deepest first.
-use Rattle.std.proofs.Common.{◌≡◌, ◌≢◌, ℕ, ◌+◌, ◌<◌, ◌≤◌, zero, suc, Bool, true, false, ◌||◌, not, inl, inr, cond, nat_eq, List, [], ◌∷◌, ◌++◌, length, map, filter, is_some, Option, Some, None, refl, sym, ap, ◌∙◌, subst, arith}
+use Rattle.std.proofs.Common.{◌≡◌, ◌≢◌, ℕ, ◌+◌, ◌<◌, ◌≤◌, zero, suc, Bool, true, false, ◌||◌, not, inl, inr, cond, nat_eq, List, [], ◌∷◌, ◌++◌, length, map, filter, is_some, Some, None, refl, sym, ap, ◌∙◌, subst, arith}
 use Rattle.std.specs.List.{All, AllPairs, Contains}
 use Rattle.std.proofs.lemmas.Bool.{both_ways, cases_Bool, cases_eq, eq-eqb, eqb-true, eqb-false, false_from_ne_true, ne_eqb, not-true, or_cases, or_left, or_right}
 use Rattle.std.proofs.lemmas.List.{length-map}
@@ -9,7 +9,7 @@ use Rattle.std.proofs.lemmas.List.Kept.{AllPairs-filter}
 use Rattle.gd_item.specs.declared.live.LiveItem.{LiveItem}
 use Rattle.gd_item.specs.Inventory.{Inventory, Effect, Removed, after, after_all, inventory}
 use Rattle.gd_item.specs.Moves.{is_parent_such, is_node_such, is_in_within, is_in, depth_of_path, deepest_first, removal_order, remove_effects}
-use Rattle.gd_item.specs.Nodes.{Node, live_node, node_at, is_folder, is_some_folder, is_twin, path_of}
+use Rattle.gd_item.specs.Nodes.{Node, live_node, node_at, is_some_folder, is_twin, path_of}
 use Rattle.gd_item.specs.Sound.{IsWithin, IsItemMap}
 use Rattle.gd_item.specs.Trees.{nodes_of}
 use Rattle.gd_item.proofs.Adding.{some-from}
@@ -32,7 +32,7 @@ other-left number other apart (item ∷ items) =
     let rest : List LiveItem = without number items in
     let left : node_at other (map live_node rest) ≡ node_at other (map live_node items) = other-left number other apart items in
     (elim (nat_eq item.number number) as (λ b. nat_eq item.number number ≡ b
-      → node_at other (map live_node (cond (not b) (item ∷ rest) rest)) ≡ cond (nat_eq item.number other) (Some (live_node item)) (node_at other (map live_node items))) [
+    → node_at other (map live_node (cond (not b) (item ∷ rest) rest)) ≡ cond (nat_eq item.number other) (Some (live_node item)) (node_at other (map live_node items))) [
       | true ↦ λ is.
           let differs : nat_eq item.number other ≡ false =
           ne_eqb item.number other (λ e. eqb-false other number apart (sym e ∙ eqb-true item.number number is)) in
@@ -71,16 +71,17 @@ climb-left number items empty zero other apart climb = climb
 climb-left number items empty (suc depth) other apart climb =
     let nodes : List Node = map live_node items in
     let child : IsChild nodes other climb.0 = climb.1 in
-    let above : nat_eq climb.0 number ≡ false = not-under number other climb.0 child.node items empty child.found child.under in
-    (climb.0,
-     record {
-       not_root = child.not_root;
-       node = child.node;
-       found = other-left number other apart items ∙ child.found;
-       under = child.under;
-       folder = ap (λ o. nat_eq climb.0 1 || is_some_folder o) (other-left number climb.0 above items) ∙ child.folder;
-     },
-     climb-left number items empty depth climb.0 above climb.2)
+    let above : nat_eq climb.0 number ≡ false = not-under number other climb.0 child.node items empty child.found child.under in (
+      climb.0,
+      record {
+        not_root = child.not_root;
+        node = child.node;
+        found = other-left number other apart items ∙ child.found;
+        under = child.under;
+        folder = ap (λ o. nat_eq climb.0 1 || is_some_folder o) (other-left number climb.0 above items) ∙ child.folder;
+      },
+      climb-left number items empty depth climb.0 above climb.2,
+    )
 
 led-left : (held : Inventory) (number : ℕ) → IsItemMap held → IsEmpty number held.items → (other : ℕ) → is_some (node_at other (map live_node (without number held.items))) ≡ true
     → is_some (path_of (map live_node (without number held.items)) other) ≡ true
@@ -139,9 +140,10 @@ ordered-level [] items empty = tt
 ordered-level (number ∷ numbers) items empty =
     let P : LiveItem → Type 0 = λ item. All (λ n. nat_eq item.parent n ≡ false) (number ∷ numbers) in
     let Q : LiveItem → Type 0 = λ item. All (λ n. nat_eq item.parent n ≡ false) numbers in
-    let rest : All Q items = All-weaker P Q (λ item h. All-tail (λ n. nat_eq item.parent n ≡ false) number numbers h) items empty in
-    (All-weaker P (λ item. nat_eq item.parent number ≡ false) (λ item h. All-head (λ n. nat_eq item.parent n ≡ false) number numbers h) items empty,
-     ordered-level numbers (without number items) (All-filter (λ item. not (nat_eq item.number number)) Q items rest))
+    let rest : All Q items = All-weaker P Q (λ item h. All-tail (λ n. nat_eq item.parent n ≡ false) number numbers h) items empty in (
+      All-weaker P (λ item. nat_eq item.parent number ≡ false) (λ item h. All-head (λ n. nat_eq item.parent n ≡ false) number numbers h) items empty,
+      ordered-level numbers (without number items) (All-filter (λ item. not (nat_eq item.number number)) Q items rest),
+    )
 
 -- what is left has none of the numbers
 left-of : (P : LiveItem → Type 0) (numbers : List ℕ) (items : List LiveItem) → All P items → All (λ item. P item × All (λ n. nat_eq item.number n ≡ false) numbers) (all_without numbers items)
@@ -186,8 +188,8 @@ found-by-number (item ∷ items) pairs =
     All-cons P item items (ap (λ b. cond b (Some (live_node item)) (node_at item.number (map live_node items))) (eq-eqb item.number item.number refl))
     (All-weaker (λ x. R item x × Q x) P
     (λ x h.
-      let lt : item.number < x.number = h.0 in
-      ap (λ b. cond b (Some (live_node item)) (node_at x.number (map live_node items))) (ne_eqb item.number x.number (λ e. omega arith)) ∙ h.1)
+    let lt : item.number < x.number = h.0 in
+    ap (λ b. cond b (Some (live_node item)) (node_at x.number (map live_node items))) (ne_eqb item.number x.number (λ e. omega arith)) ∙ h.1)
     items both)
 
 -- the root is no item
@@ -285,9 +287,10 @@ below-top held top item sound among is =
     All-contains (λ x. node_at x.number nodes ≡ Some (live_node x)) held.items item (found-by-number held.items sound.numbers) among in
     let said : is_node_such (is_in_within climb.0 nodes top) (node_at item.number nodes) ≡ is_in_within climb.0 nodes top item.parent = ap (is_node_such (is_in_within climb.0 nodes top)) found in
     let here : is_in_within (suc climb.0) nodes top item.number ≡ true =
-    or_right (nat_eq item.number top) (is_node_such (is_in_within climb.0 nodes top) (node_at item.number nodes)) (said ∙ shallow) in
-    (in-grown nodes top (suc climb.0) (suc climb.0) (length nodes) item.number climb.2 (omega arith) climb.1 here,
-     depth-of-climb nodes (suc climb.0) item.number climb.2 ∙ ap suc (sym (depth-of-climb nodes climb.0 item.parent climb.3)))
+    or_right (nat_eq item.number top) (is_node_such (is_in_within climb.0 nodes top) (node_at item.number nodes)) (said ∙ shallow) in (
+      in-grown nodes top (suc climb.0) (suc climb.0) (length nodes) item.number climb.2 (omega arith) climb.1 here,
+      depth-of-climb nodes (suc climb.0) item.number climb.2 ∙ ap suc (sym (depth-of-climb nodes climb.0 item.parent climb.3)),
+    )
 
 -- what is left when all below the top are removed that are at least so deep
 abbrev IsLeft : Inventory → ℕ → ℕ → LiveItem → Type 0
@@ -317,13 +320,13 @@ level-empty held top bound sound item left =
     let nodes : List Node = nodes_of held in
     All-weaker (λ n. (is_in nodes top n ≡ true) × (nat_eq (depth_in nodes n) bound ≡ true)) (λ n. nat_eq item.parent n ≡ false)
     (λ n h. false_from_ne_true (nat_eq item.parent n) (λ is.
-      let same : n ≡ item.parent = sym (eqb-true item.parent n is) in
-      let inside : is_in nodes top item.parent ≡ true = subst (λ m. is_in nodes top m ≡ true) same h.0 in
-      let deep : depth_in nodes item.parent ≡ bound = subst (λ m. depth_in nodes m ≡ bound) same (eqb-true (depth_in nodes n) bound h.1) in
-      let below : (is_in nodes top item.number ≡ true) × (depth_in nodes item.number ≡ suc (depth_in nodes item.parent)) = below-top held top item sound left.0 inside in
-      let deeper : depth_in nodes item.number ≡ suc (depth_in nodes item.parent) = below.1 in
-      let lt : depth_in nodes item.number < suc bound = left.1 below.0 in
-      absurd (omega arith)))
+    let same : n ≡ item.parent = sym (eqb-true item.parent n is) in
+    let inside : is_in nodes top item.parent ≡ true = subst (λ m. is_in nodes top m ≡ true) same h.0 in
+    let deep : depth_in nodes item.parent ≡ bound = subst (λ m. depth_in nodes m ≡ bound) same (eqb-true (depth_in nodes n) bound h.1) in
+    let below : (is_in nodes top item.number ≡ true) × (depth_in nodes item.number ≡ suc (depth_in nodes item.parent)) = below-top held top item sound left.0 inside in
+    let deeper : depth_in nodes item.number ≡ suc (depth_in nodes item.parent) = below.1 in
+    let lt : depth_in nodes item.number < suc bound = left.1 below.0 in
+    absurd (omega arith)))
     (level_of held top bound) (level-says held top bound)
 
 -- once those of one depth are removed, none of this depth is left
@@ -338,14 +341,15 @@ level-gone held top bound item left apart =
     kept-back inside (λ n. deep n ≡ true → P n) (map (λ (x : LiveItem). x.number) held.items) a in
     let c : All (λ x. inside x.number ≡ true → deep x.number ≡ true → P x.number) held.items = numbers-back (λ n. inside n ≡ true → deep n ≡ true → P n) held.items b in
     let own : inside item.number ≡ true → deep item.number ≡ true → P item.number =
-    All-contains (λ x. inside x.number ≡ true → deep x.number ≡ true → P x.number) held.items item c left.0 in
-    (left.0,
-     λ is.
-     let lt : depth_in nodes item.number < suc bound = left.1 is in
-     elim (cases_eq (depth_in nodes item.number) bound) [
-       | inl same ↦ absurd (both_ways (nat_eq item.number item.number) (own is (eq-eqb (depth_in nodes item.number) bound same)) (eq-eqb item.number item.number refl))
-       | inr other ↦ omega arith
-     ])
+    All-contains (λ x. inside x.number ≡ true → deep x.number ≡ true → P x.number) held.items item c left.0 in (
+      left.0,
+      λ is.
+          let lt : depth_in nodes item.number < suc bound = left.1 is in
+          elim (cases_eq (depth_in nodes item.number) bound) [
+            | inl same ↦ absurd (both_ways (nat_eq item.number item.number) (own is (eq-eqb (depth_in nodes item.number) bound same)) (eq-eqb item.number item.number refl))
+            | inr other ↦ omega arith
+          ],
+    )
 
 ordered-levels : (held : Inventory) (top : ℕ) → IsItemMap held → (bound : ℕ) (items : List LiveItem) → All (IsLeft held top bound) items → IsOrdered items (deepest_first bound (depth_in (nodes_of held)) (numbers_in held top))
 ordered-levels held top sound zero items left = tt
@@ -366,18 +370,20 @@ removal-ordered held number sound =
     ordered-levels held number sound (length held.items + 1) held.items
     (All-weaker (Contains held.items) (IsLeft held number (length held.items + 1))
     (λ item among.
-      let climb : (depth : ℕ) × (suc depth ≤ length nodes) × Climbs nodes (suc depth) item.number × Climbs nodes depth item.parent = item-climbs held item sound among in
-      let deep : depth_in nodes item.number ≡ suc climb.0 = depth-of-climb nodes (suc climb.0) item.number climb.2 in
-      let le : suc climb.0 ≤ length nodes = climb.1 in
-      (among, λ is. omega arith))
+    let climb : (depth : ℕ) × (suc depth ≤ length nodes) × Climbs nodes (suc depth) item.number × Climbs nodes depth item.parent = item-climbs held item sound among in
+    let deep : depth_in nodes item.number ≡ suc climb.0 = depth-of-climb nodes (suc climb.0) item.number climb.2 in
+    let le : suc climb.0 ≤ length nodes = climb.1 in
+    (among, λ is. omega arith))
     held.items (All-contains_itself held.items))
+
+remove-sound : (held : Inventory) (number : ℕ) → IsItemMap held → 0 < held.number → IsItemMap (after_all held (remove_effects held number))
+remove-sound held number sound positive = sound-removals held (removal_order held number) sound positive (removal-ordered held number sound)
 
 -- an item that is removed with all below it
 pub sound-removed-all : (held : Inventory) (number : ℕ) → IsItemMap held → 0 < held.number → nat_eq number 1 ≡ false → IsItemMap (after_all held (remove_effects held number))
-sound-removed-all held number sound positive not_root = sound-removals held (removal_order held number) sound positive (removal-ordered held number sound)
+sound-removed-all held number sound positive not_root = remove-sound held number sound positive
 
 -- the same of what a drive holds whose effects are these
-pub sound-removed-log : (effects : List Effect) (number : ℕ) → IsItemMap (inventory effects) → nat_eq number 1 ≡ false → IsItemMap (inventory (effects ++ remove_effects (inventory effects) number))
-sound-removed-log effects number sound not_root =
-    subst IsItemMap (sym (inventory-append effects (remove_effects (inventory effects) number)))
-    (sound-removed-all (inventory effects) number sound (number-positive effects) not_root)
+pub sound-removed-log : (effects : List Effect) (number : ℕ) → IsItemMap (inventory effects) → IsItemMap (inventory (effects ++ remove_effects (inventory effects) number))
+sound-removed-log effects number sound =
+    subst IsItemMap (sym (inventory-append effects (remove_effects (inventory effects) number))) (remove-sound (inventory effects) number sound (number-positive effects))
