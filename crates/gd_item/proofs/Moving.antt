@@ -146,7 +146,8 @@ led-moved held number change parent name sound there folder apart other is =
     some-from (path_of nodes other) (sound.led other (sym (there-moved number change parent name other held.items) ∙ is)) in
     let climb : (depth : ℕ) × (depth ≤ length nodes) × Climbs nodes depth other = climb-of-path nodes (length nodes) other found.0 found.1 in
     let new : (new : ℕ) × Climbs more new other = climb-moved number change parent name held.items high.0 kept folder climb.0 other climb.2 in
-    ap is_some (reached more new.0 other new.1).1
+    let path : (path : List (List ℕ)) × (path_of more other ≡ Some path) × (length path ≡ new.0) = reached more new.0 other new.1 in
+    ap is_some {x = path_of more other} {y = Some path.0} path.1
 
 -- names are equal but for case both ways round
 caseless-sym : (a b : List ℕ) → equal_caseless a b ≡ equal_caseless b a

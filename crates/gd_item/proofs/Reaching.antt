@@ -220,8 +220,11 @@ reached nodes depth number climb =
     let found : (path : List (List ℕ)) × (path_within depth nodes number ≡ Some path) × (length path ≡ depth) = path-of-climb nodes depth number climb in
     (found.0, path-grown nodes depth (length nodes) number found.0 (depth-bounded nodes depth number climb) found.1, found.2)
 
--- a path within any number of steps is one within as many as there are nodes
-pub path-settled : (nodes : List Node) (steps number : ℕ) (path : List (List ℕ)) → path_within steps nodes number ≡ Some path → is_some (path_of nodes number) ≡ true
+-- a path within any number of steps is the one within as many as there are nodes
+pub path-settled : (nodes : List Node) (steps number : ℕ) (path : List (List ℕ)) → path_within steps nodes number ≡ Some path → path_of nodes number ≡ Some path
 path-settled nodes steps number path h =
     let climb : (depth : ℕ) × (depth ≤ steps) × Climbs nodes depth number = climb-of-path nodes steps number path h in
-    ap is_some (reached nodes climb.0 number climb.2).1
+    let found : (path : List (List ℕ)) × (path_within climb.0 nodes number ≡ Some path) × (length path ≡ climb.0) = path-of-climb nodes climb.0 number climb.2 in
+    path-grown nodes climb.0 (length nodes) number found.0 (depth-bounded nodes climb.0 number climb.2) found.1
+    ∙ sym (path-grown nodes climb.0 steps number found.0 climb.1 found.1)
+    ∙ h
