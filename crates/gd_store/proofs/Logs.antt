@@ -1,11 +1,10 @@
 -- What a drive holds is a tree whatever its log: no request that is not refused breaks it.
-use Rattle.std.proofs.Common.{◌≡◌, ℕ, ◌+◌, ◌-◌, Bool, true, false, ◌&&◌, cond, nat_eq, nat_lt, List, [], ◌∷◌, ◌++◌, length, is_none, Option, Some, None, refl, sym, ap, subst}
+use Rattle.std.proofs.Common.{◌≡◌, ℕ, ◌+◌, ◌-◌, true, false, cond, nat_eq, List, [], ◌∷◌, ◌++◌, length, is_none, Option, Some, None, refl, sym, subst}
 use Rattle.std.specs.Option.{option_map}
 use Rattle.std.proofs.lemmas.Bool.{and_parts}
 use Rattle.std.proofs.lemmas.List.{append-nil}
 use Rattle.gd_names.specs.declared.conflict.Conflict.{Conflict}
 use Rattle.gd_item.specs.declared.condition.Condition.{Condition}
-use Rattle.gd_item.specs.declared.fault.SessionFault.{SessionFault}
 use Rattle.gd_item.specs.declared.fault.StoreFault.{StoreFault}
 use Rattle.gd_item.specs.declared.live.Place.{Place}
 use Rattle.gd_item.specs.declared.live.Place.TheVariants.{Over, Under}
@@ -17,8 +16,8 @@ use Rattle.gd_item.specs.declared.step.Step.TheVariants.{Ask, Event}
 use Rattle.gd_item.specs.Inventory.{Inventory, Effect, after, inventory}
 use Rattle.gd_item.specs.Moves.{patch_refusal, patch_effect, new_parent, new_name, remove_refusal, remove_effects}
 use Rattle.gd_item.specs.Refusals.{make_folder_refusal, make_folder_effect, put_refusal, put_effect}
-use Rattle.gd_item.specs.Refused.{Refusal, by_store, by_session, or_else, at_target, with_sessions, id_number, last_refusal, refusal}
-use Rattle.gd_item.specs.Sessions.{State, Session, new_state, held, held_bytes, session_at, fragment_fault}
+use Rattle.gd_item.specs.Refused.{by_store, or_else, at_target, with_sessions, id_number, last_refusal, refusal}
+use Rattle.gd_item.specs.Sessions.{State, Session, new_state, held, held_bytes, session_at}
 use Rattle.gd_item.specs.Sound.{IsItemMap}
 use Rattle.gd_item.specs.Steps.{effects_at, fragment_effects, effects_of, is_accepted, after_request, after_step, after_steps, held_by}
 use Rattle.gd_item.specs.Targets.{target_of, place_of}
