@@ -6,3 +6,4 @@ pub mod Allowed
 pub mod Steps
 pub mod Files
 pub mod Sounds
+pub mod Logs

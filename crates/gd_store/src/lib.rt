@@ -2,12 +2,14 @@
 #![tactic(auto)]
 
 mod feed;
+mod laws;
 mod look;
 mod path;
 mod record;
 mod store;
 
 pub use gd_item::StoreFault;
+pub use laws::every_log_is_a_tree;
 pub use store::Store;
 
 #[cfg(test)]
