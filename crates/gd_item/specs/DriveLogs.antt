@@ -1,12 +1,21 @@
--- Some short logs of drives.
-use Rattle.std.specs.Prelude.{ℕ, true, List, [], ◌∷◌, ◌++◌, codes, None}
+-- Some short logs of drives, and what of a reply tells it from others.
+use Rattle.std.specs.Prelude.{ℕ, ◌^◌, true, List, [], ◌∷◌, ◌++◌, map, codes, Option, Some, None}
+use Rattle.gd_names.specs.declared.conflict.Conflict.{Conflict}
 use Rattle.gd_names.specs.declared.conflict.Conflict.TheVariants.{Fail, Replace}
+use Rattle.gd_item.specs.Ids.{item_id}
+use Rattle.gd_item.specs.declared.condition.Condition.{Condition}
 use Rattle.gd_item.specs.declared.condition.Condition.TheVariants.{Free}
+use Rattle.gd_item.specs.declared.item.Item.{Item}
+use Rattle.gd_item.specs.declared.reply.PageLink.{PageLink}
+use Rattle.gd_item.specs.declared.reply.Reply.{Reply}
+use Rattle.gd_item.specs.declared.reply.Reply.TheVariants as reply
 use Rattle.gd_item.specs.declared.request.Address.TheVariants.{ByPath}
 use Rattle.gd_item.specs.declared.request.Request.{Request}
-use Rattle.gd_item.specs.declared.request.Request.TheVariants.{MakeFolder, Put}
+use Rattle.gd_item.specs.declared.request.Request.TheVariants.{MakeFolder, Put, Patch, Delete, OpenSession, Fragment}
+use Rattle.gd_item.specs.declared.step.DriveEvent.{DriveEvent}
+use Rattle.gd_item.specs.declared.step.DriveEvent.TheVariants.{Expire, Restore, EndSession}
 use Rattle.gd_item.specs.declared.step.Step.{Step}
-use Rattle.gd_item.specs.declared.step.Step.TheVariants.{Ask}
+use Rattle.gd_item.specs.declared.step.Step.TheVariants.{Ask, Event}
 use Rattle.gd_item.specs.declared.step.Who.TheVariants.{Other}
 
 -- another client's request, which is served and heard
@@ -20,6 +29,23 @@ put_at path bytes = Put (ByPath path) bytes Replace Free
 abbrev pub folder_at : List (List ℕ) → List ℕ → Request
 folder_at path name = MakeFolder (ByPath path) name Fail
 
+-- the request that moves what is at a path to a folder and a name, that gives it another name, and that removes it
+abbrev pub move_to : List (List ℕ) → ℕ → List ℕ → Request
+move_to path parent name = Patch (ByPath path) (Some name) (Some (item_id parent)) Free
+
+abbrev pub rename_at : List (List ℕ) → List ℕ → Request
+rename_at path name = Patch (ByPath path) (Some name) None Free
+
+abbrev pub remove_at : List (List ℕ) → Request
+remove_at path = Delete (ByPath path) Free
+
+-- the request that puts a file where none is yet, and that begins to send one
+abbrev pub put_new : List (List ℕ) → List ℕ → Condition → Request
+put_new path bytes condition = Put (ByPath path) bytes Fail condition
+
+abbrev pub send_new : List (List ℕ) → Request
+send_new path = OpenSession (ByPath path) None Fail Free
+
 -- a folder `a` and a folder `b` in it
 abbrev pub moved_folder_log : List Step
 moved_folder_log = other (folder_at [] (codes "a")) ∷ other (folder_at (codes "a" ∷ []) (codes "b")) ∷ []
@@ -27,3 +53,66 @@ moved_folder_log = other (folder_at [] (codes "a")) ∷ other (folder_at (codes 
 -- two files in the root
 abbrev pub two_files_log : List Step
 two_files_log = other (put_at (codes "a" ∷ []) (codes "x")) ∷ other (put_at (codes "b" ∷ []) (codes "y")) ∷ []
+
+-- one of the two files got two other names, one after the other
+abbrev pub renamed_log : List Step
+renamed_log = two_files_log ++ other (move_to (codes "a" ∷ []) 1 (codes "c")) ∷ other (move_to (codes "c" ∷ []) 1 (codes "d")) ∷ []
+
+-- three files in the root
+abbrev pub three_files_log : List Step
+three_files_log = two_files_log ++ other (put_at (codes "c" ∷ []) (codes "z")) ∷ []
+
+-- a file was removed, and the tokens of before no longer serve
+abbrev pub expired_log : List Step
+expired_log = two_files_log ++ other (remove_at (codes "a" ∷ [])) ∷ Event (Expire 4) ∷ []
+
+-- four puts of a file, and tokens up to 4 do not serve
+abbrev pub floor_log : List Step
+floor_log =
+    two_files_log ++ other (put_at (codes "a" ∷ []) (codes "z")) ∷ other (put_at (codes "a" ∷ []) (codes "y")) ∷ Event (Expire 4) ∷ []
+
+-- a folder `d` and a file `f` in it
+abbrev pub folder_log : List Step
+folder_log = other (folder_at [] (codes "d")) ∷ other (put_at (codes "d" ∷ codes "f" ∷ []) (codes "x")) ∷ []
+
+-- a session for a file `s` in the root
+abbrev pub opened_log : List Step
+opened_log = other (send_new (codes "s" ∷ [])) ∷ []
+
+-- and another client's put of the name
+abbrev pub overtaken_log : List Step
+overtaken_log = opened_log ++ other (put_at (codes "s" ∷ []) (codes "x")) ∷ []
+
+-- the file `f` of the session's ten bytes at once
+abbrev pub ten_bytes : Request
+ten_bytes = Fragment 1 0 9 10 (codes "0123456789")
+
+-- the number and the name of each item that a reply names
+abbrev pub number_and_name : Item → ℕ × List ℕ
+number_and_name item = (item.id.0, item.name)
+
+abbrev pub named_by : Reply → List (ℕ × List ℕ)
+named_by (reply.Made item) = number_and_name item ∷ []
+named_by (reply.Is item) = number_and_name item ∷ []
+named_by (reply.Page page) = map number_and_name page.items
+named_by other = []
+
+-- the link at the end of a page
+abbrev pub link_of : Reply → Option PageLink
+link_of (reply.Page page) = Some page.link
+link_of other = None
+
+-- the status with which a reply is sent
+abbrev pub status_of_reply : Reply → ℕ
+status_of_reply (reply.Made item) = 201
+status_of_reply (reply.Is item) = 200
+status_of_reply (reply.Listed items next) = 200
+status_of_reply reply.Done = 204
+status_of_reply (reply.Found id version) = 302
+status_of_reply (reply.Content bytes) = 200
+status_of_reply (reply.Session session expected) = 200
+status_of_reply (reply.Status expected) = 200
+status_of_reply (reply.More expected) = 202
+status_of_reply (reply.Page page) = 200
+status_of_reply (reply.Gone resync) = 410
+status_of_reply (reply.Refused status code) = status

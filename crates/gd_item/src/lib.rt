@@ -12,12 +12,16 @@ mod laws;
 mod live;
 mod reply;
 mod request;
+mod session_instances;
 mod step;
 mod token;
 mod tree_laws;
 
 pub use condition::{Condition, matches};
-pub use drive_instances::moves_refused;
+pub use drive_instances::{
+    case_changed, expired_token_gone, folder_deleted, moved_between_pages, moves_refused, pages_full,
+    puts_answered, tokens_read, tokens_served,
+};
 pub use digest::{Digest, digest_of};
 pub use fault::{ErrorCode, SessionFault, StoreFault};
 pub use id::ItemId;
@@ -27,6 +31,7 @@ pub use laws::ids_read_back;
 pub use live::{LiveItem, Place, Tombstone, Version};
 pub use reply::{Page, PageLink, Reply, Resync};
 pub use request::{Address, Request, RequestKind};
+pub use session_instances::{session_completed, session_overtaken};
 pub use step::{DriveEvent, Step, Who};
 pub use token::Token;
 pub use tree_laws::{
