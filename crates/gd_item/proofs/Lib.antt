@@ -2,6 +2,8 @@ pub mod Adding
 pub mod Climbs
 pub mod Effects
 pub mod Hex
+pub mod LogsGrow
+pub mod LogsVersions
 pub mod Pairs
 pub mod Quotes
 pub mod Soundness
