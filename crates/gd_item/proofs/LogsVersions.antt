@@ -45,11 +45,12 @@ known-new versions item number content bytes is_number is_content is_bytes other
 known-changed : (Q R : LiveItem → Type 0) (number : ℕ) (f : LiveItem → LiveItem) (items : List LiveItem) → ((item : LiveItem) → Q item → R item)
     → ((item : LiveItem) → item.number ≡ number → Q item → R (f item)) → All Q items → All R (changed number f items)
 known-changed Q R number f [] stays becomes all = All-nil R
-known-changed Q R number f (item ∷ items) stays becomes all = by (nat_eq item.number number) refl
-where
-  by : (b : Bool) → nat_eq item.number number ≡ b → All R (cond b (f item ∷ items) (item ∷ changed number f items))
-  by true is = All-cons R (f item) items (becomes item (eqb-true item.number number is) (All-head Q item items all)) (All-weaker Q R stays items (All-tail Q item items all))
-  by false is = All-cons R item (changed number f items) (stays item (All-head Q item items all)) (known-changed Q R number f items stays becomes (All-tail Q item items all))
+known-changed Q R number f (item ∷ items) stays becomes all =
+    by (nat_eq item.number number) refl (known-changed Q R number f items stays becomes (All-tail Q item items all))
+  where
+    by : (b : Bool) → nat_eq item.number number ≡ b → All R (changed number f items) → All R (cond b (f item ∷ items) (item ∷ changed number f items))
+    by true is rest = All-cons R (f item) items (becomes item (eqb-true item.number number is) (All-head Q item items all)) (All-weaker Q R stays items (All-tail Q item items all))
+    by false is rest = All-cons R item (changed number f items) (stays item (All-head Q item items all)) rest
 
 known-in : (versions : List Version) (item : LiveItem) (bytes : Option (List ℕ)) → item.bytes ≡ bytes → IsKnown versions item → All (Contains versions) (version_in item bytes)
 known-in versions item None is known = All-nil (Contains versions)
@@ -58,11 +59,11 @@ known-in versions item (Some bytes) is known =
 
 known-of : (versions : List Version) (number : ℕ) (items : List LiveItem) → All (IsKnown versions) items → All (Contains versions) (version_of (live_at number items))
 known-of versions number [] all = All-nil (Contains versions)
-known-of versions number (item ∷ items) all = by (nat_eq item.number number)
-where
-  by : (b : Bool) → All (Contains versions) (version_of (cond b (Some item) (live_at number items)))
-  by true = known-in versions item item.bytes refl (All-head (IsKnown versions) item items all)
-  by false = known-of versions number items (All-tail (IsKnown versions) item items all)
+known-of versions number (item ∷ items) all = by (nat_eq item.number number) (known-of versions number items (All-tail (IsKnown versions) item items all))
+  where
+    by : (b : Bool) → All (Contains versions) (version_of (live_at number items)) → All (Contains versions) (version_of (cond b (Some item) (live_at number items)))
+    by true rest = known-in versions item item.bytes refl (All-head (IsKnown versions) item items all)
+    by false rest = rest
 
 known-after : (held : Inventory) (effect : Effect) (versions : List Version) → AreKnown held versions → AreKnown (after held effect) (versions ++ put_by held effect)
 known-after held (MadeFolder parent name) versions known =
@@ -113,46 +114,48 @@ known-inventory effects = known-all new_drive effects [] (record { replaced = Al
 -- a replaced version that is found
 found-replaced : (versions : List Version) (number content : ℕ) (bytes : List ℕ) (replaced : List Version) → All (Contains versions) replaced
     → replaced_bytes number content replaced ≡ Some bytes → Contains versions (record { item = number; content = content; bytes = bytes })
-found-replaced versions number content bytes [] all found = absurd cc
-found-replaced versions number content bytes (version ∷ replaced) all = by (nat_eq version.item number && nat_eq version.content content) refl
-where
-  by : (b : Bool) → (nat_eq version.item number && nat_eq version.content content) ≡ b → cond b (Some version.bytes) (replaced_bytes number content replaced) ≡ Some bytes
-      → Contains versions (record { item = number; content = content; bytes = bytes })
-  by true is found =
-      let parts = and_parts (nat_eq version.item number) (nat_eq version.content content) is in
-      let is_item : version.item ≡ number = eqb-true version.item number parts.0 in
-      let is_content : version.content ≡ content = eqb-true version.content content parts.1 in
-      let is_bytes : version.bytes ≡ bytes = cc in
-      let same : record { item = version.item; content = version.content; bytes = version.bytes } ≡ record { item = number; content = content; bytes = bytes } = cc in
-      subst (Contains versions) same (All-head (Contains versions) version replaced all)
-  by false is found = found-replaced versions number content bytes replaced (All-tail (Contains versions) version replaced all) found
+found-replaced versions number content bytes [] all = λ found. absurd cc
+found-replaced versions number content bytes (version ∷ replaced) all =
+    by (nat_eq version.item number && nat_eq version.content content) refl (found-replaced versions number content bytes replaced (All-tail (Contains versions) version replaced all))
+  where
+    by : (b : Bool) → (nat_eq version.item number && nat_eq version.content content) ≡ b → (replaced_bytes number content replaced ≡ Some bytes → Contains versions (record { item = number; content = content; bytes = bytes })) → cond b (Some version.bytes) (replaced_bytes number content replaced) ≡ Some bytes
+        → Contains versions (record { item = number; content = content; bytes = bytes })
+    by true is rest found =
+        let parts = and_parts (nat_eq version.item number) (nat_eq version.content content) is in
+        let is_item : version.item ≡ number = eqb-true version.item number parts.0 in
+        let is_content : version.content ≡ content = eqb-true version.content content parts.1 in
+        let is_bytes : version.bytes ≡ bytes = cc in
+        let same : record { item = version.item; content = version.content; bytes = version.bytes } ≡ record { item = number; content = content; bytes = bytes } = cc in
+        subst (Contains versions) same (All-head (Contains versions) version replaced all)
+    by false is rest found = rest found
 
 found-file : (versions : List Version) (content : ℕ) (bytes : List ℕ) (replaced : List Version) (item : LiveItem) (held : Option (List ℕ)) → item.bytes ≡ held → All (Contains versions) replaced
     → IsKnown versions item → file_version content replaced item held ≡ Some bytes → Contains versions (record { item = item.number; content = content; bytes = bytes })
 found-file versions content bytes replaced item None is all known found = absurd cc
-found-file versions content bytes replaced item (Some current) is all known = by (nat_eq item.content content) refl
-where
-  by : (b : Bool) → nat_eq item.content content ≡ b → cond b (Some current) (replaced_bytes item.number content replaced) ≡ Some bytes
-      → Contains versions (record { item = item.number; content = content; bytes = bytes })
-  by true same found =
-      let is_content : item.content ≡ content = eqb-true item.content content same in
-      let is_bytes : item.bytes ≡ Some bytes = is ∙ found in
-      let target : record { item = item.number; content = item.content; bytes = bytes } ≡ record { item = item.number; content = content; bytes = bytes } = cc in
-      subst (Contains versions) target (known bytes is_bytes)
-  by false same found = found-replaced versions item.number content bytes replaced all found
+found-file versions content bytes replaced item (Some current) is all known found = by (nat_eq item.content content) refl found
+  where
+    by : (b : Bool) → nat_eq item.content content ≡ b → cond b (Some current) (replaced_bytes item.number content replaced) ≡ Some bytes
+        → Contains versions (record { item = item.number; content = content; bytes = bytes })
+    by true same found =
+        let is_content : item.content ≡ content = eqb-true item.content content same in
+        let is_bytes : item.bytes ≡ Some bytes = is ∙ found in
+        let target : record { item = item.number; content = item.content; bytes = bytes } ≡ record { item = item.number; content = content; bytes = bytes } = cc in
+        subst (Contains versions) target (known bytes is_bytes)
+    by false same found = found-replaced versions item.number content bytes replaced all found
 
 found-live : (versions : List Version) (number content : ℕ) (bytes : List ℕ) (replaced : List Version) (items : List LiveItem) → All (Contains versions) replaced → All (IsKnown versions) items
     → item_version content replaced (live_at number items) ≡ Some bytes → Contains versions (record { item = number; content = content; bytes = bytes })
-found-live versions number content bytes replaced [] all known found = absurd cc
-found-live versions number content bytes replaced (item ∷ items) all known = by (nat_eq item.number number) refl
-where
-  by : (b : Bool) → nat_eq item.number number ≡ b → item_version content replaced (cond b (Some item) (live_at number items)) ≡ Some bytes
-      → Contains versions (record { item = number; content = content; bytes = bytes })
-  by true same found =
-      let P : ℕ → Type 0 = λ n. Contains versions (record { item = n; content = content; bytes = bytes }) in
-      subst P (eqb-true item.number number same)
-      (found-file versions content bytes replaced item item.bytes refl all (All-head (IsKnown versions) item items known) found)
-  by false same found = found-live versions number content bytes replaced items all (All-tail (IsKnown versions) item items known) found
+found-live versions number content bytes replaced [] all known = λ found. absurd cc
+found-live versions number content bytes replaced (item ∷ items) all known =
+    by (nat_eq item.number number) refl (found-live versions number content bytes replaced items all (All-tail (IsKnown versions) item items known))
+  where
+    by : (b : Bool) → nat_eq item.number number ≡ b → (item_version content replaced (live_at number items) ≡ Some bytes → Contains versions (record { item = number; content = content; bytes = bytes })) → item_version content replaced (cond b (Some item) (live_at number items)) ≡ Some bytes
+        → Contains versions (record { item = number; content = content; bytes = bytes })
+    by true same rest found =
+        let P : ℕ → Type 0 = λ n. Contains versions (record { item = n; content = content; bytes = bytes }) in
+        subst P (eqb-true item.number number same)
+        (found-file versions content bytes replaced item item.bytes refl all (All-head (IsKnown versions) item items known) found)
+    by false same rest found = rest found
 
 any-from-contains : {X : Type 0} (xs : List X) (x : X) → Contains xs x → Any (λ y. y ≡ x) xs
 any-from-contains xs x there = (there.0, x, there.1, there.2, refl)
