@@ -2,6 +2,7 @@ pub mod Adding
 pub mod Climbs
 pub mod Effects
 pub mod Hex
+pub mod LogsFeed
 pub mod LogsGrow
 pub mod LogsVersions
 pub mod Pairs

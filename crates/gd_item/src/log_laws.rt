@@ -1,9 +1,12 @@
 //! Laws of the drive's log, each the contract of a function that does nothing.
-ghost use Rattle.std.specs.Prelude.{◌≡◌, ℕ, ◌≤◌, List, ◌++◌, Some};
-ghost use Rattle.std.specs.List.{Any};
+ghost use Rattle.std.specs.Prelude.{◌≡◌, ℕ, ◌<◌, ◌≤◌, List, ◌++◌, take, Some};
+ghost use Rattle.std.specs.List.{Any, AllPairs};
+ghost use Rattle.gd_item.specs.Inventory.{Inventory};
+ghost use Rattle.gd_item.specs.Records.{feed, last_of};
 ghost use Rattle.gd_item.specs.Steps.{state_of, held_by, number_of, accepted_by};
 ghost use Rattle.gd_item.specs.Versions.{version_at};
 
+use crate::item::Item;
 use crate::live::Version;
 use crate::step::Step;
 
@@ -23,4 +26,13 @@ pub fn accepted_versions_stay()
 pub fn a_version_is_accepted()
     ensures { (log : List Step) (number content : ℕ) (bytes : List ℕ) → version_at number content (held_by log) ≡ Some bytes
         → Any (λ (version : Version). version ≡ record { item = number; content = content; bytes = bytes }) (accepted_by log) }
+{}
+
+/// The numbers of a feed rise. A page of it and the feed past the page's last number are the feed, so each change
+/// that stands until then is given once.
+pub fn pages_give_each_change_once()
+    ensures rises { (held : Inventory) (position start : ℕ) → AllPairs (λ (x y : ℕ × Item). x.0 < y.0) (feed held position start) }
+    ensures later { (held : Inventory) (position start size last : ℕ) → 0 < size → last_of size (feed held position start) ≡ Some last → position < last }
+    ensures rest { (held : Inventory) (position start size last : ℕ) → 0 < size → last_of size (feed held position start) ≡ Some last
+        → feed held position start ≡ take size (feed held position start) ++ feed held last start }
 {}
