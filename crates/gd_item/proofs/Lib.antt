@@ -4,6 +4,7 @@ pub mod Effects
 pub mod Hex
 pub mod LogsFeed
 pub mod LogsGrow
+pub mod LogsSessions
 pub mod LogsVersions
 pub mod Pairs
 pub mod Quotes

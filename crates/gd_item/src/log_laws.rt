@@ -1,6 +1,7 @@
 //! Laws of the drive's log, each the contract of a function that does nothing.
 ghost use Rattle.std.specs.Prelude.{◌≡◌, ℕ, ◌<◌, ◌≤◌, List, ◌++◌, take, Some};
 ghost use Rattle.std.specs.List.{Any, AllPairs};
+ghost use Rattle.gd_item.specs.Completions.{completions};
 ghost use Rattle.gd_item.specs.Inventory.{Inventory};
 ghost use Rattle.gd_item.specs.Records.{feed, last_of};
 ghost use Rattle.gd_item.specs.Steps.{state_of, held_by, number_of, accepted_by};
@@ -35,4 +36,9 @@ pub fn pages_give_each_change_once()
     ensures later { (held : Inventory) (position start size last : ℕ) → 0 < size → last_of size (feed held position start) ≡ Some last → position < last }
     ensures rest { (held : Inventory) (position start size last : ℕ) → 0 < size → last_of size (feed held position start) ≡ Some last
         → feed held position start ≡ take size (feed held position start) ++ feed held last start }
+{}
+
+/// An upload session is completed at most once.
+pub fn a_session_completes_once()
+    ensures { (session : ℕ) (log : List Step) → completions session log ≤ 1 }
 {}
