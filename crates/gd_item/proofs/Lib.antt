@@ -3,6 +3,7 @@ pub mod Climbs
 pub mod Effects
 pub mod Hex
 pub mod LogsFeed
+pub mod LogsFragments
 pub mod LogsGrow
 pub mod LogsSessions
 pub mod LogsVersions

@@ -83,9 +83,29 @@ opened_log = other (send_new (codes "s" ∷ [])) ∷ []
 abbrev pub overtaken_log : List Step
 overtaken_log = opened_log ++ other (put_at (codes "s" ∷ []) (codes "x")) ∷ []
 
--- the file `f` of the session's ten bytes at once
+-- the ten bytes of the session's file at once
 abbrev pub ten_bytes : Request
 ten_bytes = Fragment 1 0 9 10 (codes "0123456789")
+
+-- the three fragments of a file of 655,361 bytes
+abbrev pub first_part : List ℕ → Request
+first_part bytes = Fragment 1 0 327679 655361 bytes
+
+abbrev pub second_part : List ℕ → Request
+second_part bytes = Fragment 1 327680 655359 655361 bytes
+
+abbrev pub third_part : List ℕ → Request
+third_part bytes = Fragment 1 655360 655360 655361 bytes
+
+-- one, two and three of them were sent, the second one twice
+abbrev pub begun_log : List ℕ → List Step
+begun_log a = opened_log ++ other (first_part a) ∷ []
+
+abbrev pub two_parts_log : List ℕ → List ℕ → List Step
+two_parts_log a b = begun_log a ++ other (second_part b) ∷ []
+
+abbrev pub sent_log : List ℕ → List ℕ → List ℕ → List Step
+sent_log a b c = two_parts_log a b ++ other (second_part b) ∷ other (third_part c) ∷ []
 
 -- the number and the name of each item that a reply names
 abbrev pub number_and_name : Item → ℕ × List ℕ

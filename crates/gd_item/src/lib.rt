@@ -35,7 +35,9 @@ pub use log_laws::{
 pub use live::{LiveItem, Place, Tombstone, Version};
 pub use reply::{Page, PageLink, Reply, Resync};
 pub use request::{Address, Request, RequestKind};
-pub use session_instances::{session_completed, session_overtaken};
+pub use session_instances::{
+    fragments_refused, large_file_sent, session_completed, session_overtaken,
+};
 pub use step::{DriveEvent, Step, Who};
 pub use token::Token;
 pub use tree_laws::{
