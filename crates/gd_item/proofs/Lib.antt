@@ -9,4 +9,5 @@ pub mod LogsSessions
 pub mod LogsVersions
 pub mod Pairs
 pub mod Quotes
+pub mod ReadTokens
 pub mod Soundness

@@ -28,7 +28,7 @@ pub use fault::{ErrorCode, SessionFault, StoreFault};
 pub use id::ItemId;
 pub use instances::{file_replaced, folder_refusals, folder_removed, taken_name_put};
 pub use item::{Item, Kind, Tag, ctag_of, etag_of};
-pub use laws::ids_read_back;
+pub use laws::{ids_read_back, tokens_read_back};
 pub use log_laws::{
     a_session_completes_once, a_version_is_accepted, accepted_versions_stay, numbers_never_fall, pages_give_each_change_once,
 };
