@@ -4,16 +4,17 @@ use Rattle.std.proofs.lemmas.List.{length-append, append_assoc}
 use Rattle.gd_names.specs.Causes.{first_cause}
 use Rattle.gd_names.specs.Names.{name_fault}
 use Rattle.gd_names.specs.declared.conflict.Conflict.{Conflict}
-use Rattle.gd_names.specs.declared.conflict.Conflict.TheVariants.{Fail}
+use Rattle.gd_names.specs.declared.conflict.Conflict.TheVariants.{Fail, Replace}
 use Rattle.gd_item.specs.Answers.{answer, answer_of, answer_unless, reply_to, refused}
-use Rattle.gd_item.specs.DriveLogs.{other, opened_log, first_part, second_part, third_part, begun_log, two_parts_log, sent_log, status_of_reply}
+use Rattle.gd_item.specs.DriveLogs.{other, put_at, opened_log, first_part, second_part, third_part, begun_log, two_parts_log, sent_log, status_of_reply}
 use Rattle.gd_item.specs.Ids.{item_id}
 use Rattle.gd_item.specs.Inventory.{Inventory, new_drive, live_at}
 use Rattle.gd_item.specs.Nodes.{is_folder}
 use Rattle.gd_item.specs.Refusals.{is_there, settled_in, is_refuse, is_met, is_too_long, settled_path, is_over_quota, made_items, live_named, put_refusal}
-use Rattle.gd_item.specs.Refused.{Refusal, refuse, refusal, or_else, by_session, by_store, last_refusal, whole_refusal}
-use Rattle.gd_item.specs.Sessions.{State, Session, held, held_bytes, is_other_total, session_fragment_fault, fragment_fault, session_at}
+use Rattle.gd_item.specs.Refused.{Refusal, refuse, refusal, or_else, by_session, by_store, at_target, last_refusal, whole_refusal}
+use Rattle.gd_item.specs.Sessions.{State, Session, new_state, held, held_bytes, is_other_total, session_fragment_fault, fragment_fault, session_at}
 use Rattle.gd_item.specs.Steps.{after_request, is_accepted, after_step, after_steps, state_of}
+use Rattle.gd_item.specs.Targets.{place_of}
 use Rattle.gd_item.specs.Trees.{nodes_of}
 use Rattle.gd_item.specs.declared.condition.Condition.{Condition}
 use Rattle.gd_item.specs.declared.condition.Condition.TheVariants.{Free}
@@ -25,6 +26,7 @@ use Rattle.gd_item.specs.declared.fault.StoreFault.TheVariants.{NotFound, NotFol
 use Rattle.gd_item.specs.declared.live.Place.TheVariants.{Under}
 use Rattle.gd_item.specs.declared.reply.Reply.{Reply}
 use Rattle.gd_item.specs.declared.reply.Reply.TheVariants as reply
+use Rattle.gd_item.specs.declared.request.Address.TheVariants.{ByPath}
 use Rattle.gd_item.specs.declared.request.Request.{Request}
 use Rattle.gd_item.specs.declared.request.Request.TheVariants.{Fragment, SessionStatus}
 use Rattle.gd_item.specs.declared.step.Step.{Step}
@@ -185,3 +187,10 @@ range-answer b long =
 
 pub total-answer : (a b : List ℕ) → length a ≡ 327680 → answer_of (begun_log a) 200 (Fragment 1 327680 655359 655362 b) ≡ refused (refuse 400 InvalidRequest)
 total-answer a b long = ap (λ state. answer state 200 (Fragment 1 327680 655359 655362 b)) (begun-is a long)
+
+-- a put above the limit
+pub large-put : (path : List (List ℕ)) (bytes : List ℕ) → length bytes ≡ 4194305 → answer_of [] 200 (put_at path bytes) ≡ refused (refuse 413 InvalidRequest)
+large-put path bytes long =
+    answer-refused new_state 200 (put_at path bytes) (refuse 413 InvalidRequest)
+    (ap (λ n. cond (nat_lt 4194304 n) (Some (refuse 413 InvalidRequest))
+    (by_store (at_target (λ place. put_refusal (held new_state) place bytes Replace Free (held_bytes [])) (place_of (held new_state) (ByPath path))))) long)

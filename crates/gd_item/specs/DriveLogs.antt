@@ -1,5 +1,5 @@
 -- Some short logs of drives, and what of a reply tells it from others.
-use Rattle.std.specs.Prelude.{ℕ, ◌^◌, true, List, [], ◌∷◌, ◌++◌, map, codes, Option, Some, None}
+use Rattle.std.specs.Prelude.{ℕ, true, false, List, [], ◌∷◌, ◌++◌, map, codes, Option, Some, None}
 use Rattle.gd_names.specs.declared.conflict.Conflict.{Conflict}
 use Rattle.gd_names.specs.declared.conflict.Conflict.TheVariants.{Fail, Replace}
 use Rattle.gd_item.specs.Ids.{item_id}
@@ -11,12 +11,11 @@ use Rattle.gd_item.specs.declared.reply.Reply.{Reply}
 use Rattle.gd_item.specs.declared.reply.Reply.TheVariants as reply
 use Rattle.gd_item.specs.declared.request.Address.TheVariants.{ByPath}
 use Rattle.gd_item.specs.declared.request.Request.{Request}
-use Rattle.gd_item.specs.declared.request.Request.TheVariants.{MakeFolder, Put, Patch, Delete, OpenSession, Fragment}
-use Rattle.gd_item.specs.declared.step.DriveEvent.{DriveEvent}
-use Rattle.gd_item.specs.declared.step.DriveEvent.TheVariants.{Expire, Restore, EndSession}
+use Rattle.gd_item.specs.declared.request.Request.TheVariants.{MakeFolder, Put, Patch, Delete, OpenSession, Fragment, CancelSession}
+use Rattle.gd_item.specs.declared.step.DriveEvent.TheVariants.{Expire, Restore}
 use Rattle.gd_item.specs.declared.step.Step.{Step}
 use Rattle.gd_item.specs.declared.step.Step.TheVariants.{Ask, Event}
-use Rattle.gd_item.specs.declared.step.Who.TheVariants.{Other}
+use Rattle.gd_item.specs.declared.step.Who.TheVariants.{Own, Other}
 
 -- another client's request, which is served and heard
 abbrev pub other : Request → Step
@@ -75,6 +74,31 @@ floor_log =
 abbrev pub folder_log : List Step
 folder_log = other (folder_at [] (codes "d")) ∷ other (put_at (codes "d" ∷ codes "f" ∷ []) (codes "x")) ∷ []
 
+-- a folder with one below it is moved into another folder
+abbrev pub nested_log : List Step
+nested_log =
+    other (folder_at [] (codes "a")) ∷ other (folder_at (codes "a" ∷ []) (codes "f")) ∷ other (folder_at [] (codes "b")) ∷ other (move_to (codes "a" ∷ []) 4 (codes "a")) ∷ []
+
+-- a folder is moved below itself, which is refused, gets its name in upper case, and is removed by its old name
+abbrev pub one_folder_log : List Step
+one_folder_log =
+    other (folder_at [] (codes "a")) ∷ other (move_to (codes "a" ∷ []) 2 (codes "x")) ∷ other (move_to (codes "a" ∷ []) 1 (codes "A")) ∷ other (remove_at (codes "a" ∷ [])) ∷ []
+
+-- one of the two files was removed, and after it the drive was restored
+abbrev pub removed_file_log : List Step
+removed_file_log = two_files_log ++ other (remove_at (codes "a" ∷ [])) ∷ []
+
+abbrev pub restored_log : List Step
+restored_log = removed_file_log ++ Event Restore ∷ []
+
+-- three files whose order by name is another one than that of their numbers
+abbrev pub letters_log : List Step
+letters_log = other (put_at (codes "c" ∷ []) (codes "x")) ∷ other (put_at (codes "B" ∷ []) (codes "y")) ∷ other (put_at (codes "a" ∷ []) (codes "z")) ∷ []
+
+-- a put that lacked memory, and one whose reply was lost
+abbrev pub unlucky_log : List Step
+unlucky_log = Ask Other (put_at (codes "a" ∷ []) (codes "x")) false true ∷ Ask Other (put_at (codes "b" ∷ []) (codes "y")) true false ∷ []
+
 -- a session for a file `s` in the root
 abbrev pub opened_log : List Step
 opened_log = other (send_new (codes "s" ∷ [])) ∷ []
@@ -82,6 +106,10 @@ opened_log = other (send_new (codes "s" ∷ [])) ∷ []
 -- and another client's put of the name
 abbrev pub overtaken_log : List Step
 overtaken_log = opened_log ++ other (put_at (codes "s" ∷ []) (codes "x")) ∷ []
+
+-- a session that this client opens, and a request of another client's that names it
+abbrev pub meddled_log : List Step
+meddled_log = Ask Own (send_new (codes "s" ∷ [])) true true ∷ other (CancelSession 1) ∷ []
 
 -- the ten bytes of the session's file at once
 abbrev pub ten_bytes : Request
@@ -114,8 +142,14 @@ number_and_name item = (item.id.0, item.name)
 abbrev pub named_by : Reply → List (ℕ × List ℕ)
 named_by (reply.Made item) = number_and_name item ∷ []
 named_by (reply.Is item) = number_and_name item ∷ []
+named_by (reply.Listed items next) = map number_and_name items
 named_by (reply.Page page) = map number_and_name page.items
 named_by other = []
+
+-- the name after which the next list begins
+abbrev pub next_of : Reply → Option (List ℕ)
+next_of (reply.Listed items next) = next
+next_of other = None
 
 -- the link at the end of a page
 abbrev pub link_of : Reply → Option PageLink

@@ -1,10 +1,11 @@
 //! Instances of the drive's log and of its answers, each the contract of a function that does nothing.
 ghost use Rattle.std.specs.Prelude.{◌≡◌, ℕ, true, false, List, [], ◌∷◌, ◌++◌, codes, Some, None};
 ghost use Rattle.gd_item.specs.Answers.{answer_of, refused};
-ghost use Rattle.gd_item.specs.DriveLogs.{put_at, put_new, move_to, rename_at, remove_at, other, moved_folder_log, two_files_log, renamed_log, three_files_log, expired_log, floor_log, folder_log, named_by, link_of, status_of_reply};
+ghost use Rattle.gd_item.specs.DriveLogs.{put_at, put_new, move_to, rename_at, remove_at, other, moved_folder_log, two_files_log, renamed_log, three_files_log, expired_log, floor_log, folder_log, nested_log, one_folder_log, removed_file_log, restored_log, letters_log, unlucky_log, named_by, next_of, link_of, status_of_reply};
 ghost use Rattle.gd_item.specs.Refused.{refuse, refusal};
-ghost use Rattle.gd_item.specs.Steps.{state_of, held_by};
+ghost use Rattle.gd_item.specs.Steps.{state_of, held_by, number_of};
 ghost use Rattle.gd_item.specs.Tokens.{token_text, token_of_text};
+ghost use Rattle.gd_item.specs.Trees.{tree_of};
 ghost use Rattle.gd_item.specs.declared.reply.Reply.TheVariants as reply;
 
 use crate::condition::Condition;
@@ -84,4 +85,42 @@ pub fn folder_deleted()
     ensures answer { answer_of folder_log 200 (remove_at (codes "d" ∷ [])) ≡ reply.Done }
     ensures items { (held_by (folder_log ++ other (remove_at (codes "d" ∷ [])) ∷ [])).items ≡ [] }
     ensures removed { (held_by (folder_log ++ other (remove_at (codes "d" ∷ [])) ∷ [])).removed ≡ record { number = 3; parent = 2; change = 4 } ∷ record { number = 2; parent = 1; change = 5 } ∷ [] }
+{}
+
+/// What stands below a folder moves with it.
+pub fn folder_moved()
+    ensures number { number_of nested_log ≡ 5 }
+    ensures tree { tree_of (held_by nested_log) ≡ (codes "b" ∷ [], None) ∷ (codes "b" ∷ codes "a" ∷ [], None) ∷ (codes "b" ∷ codes "a" ∷ codes "f" ∷ [], None) ∷ [] }
+{}
+
+/// A refused move is no effect, and an item is found by its name in other case.
+pub fn folder_renamed_and_removed()
+    ensures number { number_of one_folder_log ≡ 4 }
+    ensures tree { tree_of (held_by one_folder_log) ≡ [] }
+{}
+
+/// A file that is removed between two pages stands on the second one as removed, since the first had it.
+pub fn removed_between_pages()
+    ensures second { named_by (answer_of removed_file_log 2 (Request.Delta (Some (codes "t1.2.3")))) ≡ (3, codes "b") ∷ (2, []) ∷ [] }
+    ensures second_link { link_of (answer_of removed_file_log 2 (Request.Delta (Some (codes "t1.2.3")))) ≡ Some (PageLink.Delta (codes "t1.4.3")) }
+    ensures fresh { named_by (answer_of removed_file_log 2 (Request.Delta None)) ≡ (1, codes "root") ∷ (3, codes "b") ∷ [] }
+{}
+
+/// A token of before a restoration is gone, and a client has to send what it has.
+pub fn restored_token_gone()
+    ensures { answer_of restored_log 200 (Request.Delta (Some (codes "t1.2.2"))) ≡ reply.Gone Resync.UploadDifferences }
+{}
+
+/// Children are listed in order of their names in lower case, and a list goes on after the last name that was given.
+pub fn children_listed()
+    ensures first { named_by (answer_of letters_log 2 (Request.Children (Address.ByPath []) None)) ≡ (4, codes "a") ∷ (3, codes "B") ∷ [] }
+    ensures first_next { next_of (answer_of letters_log 2 (Request.Children (Address.ByPath []) None)) ≡ Some (codes "B") }
+    ensures second { named_by (answer_of letters_log 2 (Request.Children (Address.ByPath []) (Some (codes "B")))) ≡ (2, codes "c") ∷ [] }
+    ensures second_next { next_of (answer_of letters_log 2 (Request.Children (Address.ByPath []) (Some (codes "B")))) ≡ None }
+{}
+
+/// A step that was not served has no effect, and one whose reply was lost has it.
+pub fn steps_unlucky()
+    ensures number { number_of unlucky_log ≡ 2 }
+    ensures tree { tree_of (held_by unlucky_log) ≡ (codes "b" ∷ [], Some (codes "y")) ∷ [] }
 {}

@@ -20,8 +20,9 @@ mod tree_laws;
 
 pub use condition::{Condition, matches};
 pub use drive_instances::{
-    case_changed, expired_token_gone, folder_deleted, moved_between_pages, moves_refused, pages_full,
-    puts_answered, tokens_read, tokens_served,
+    case_changed, children_listed, expired_token_gone, folder_deleted, folder_moved,
+    folder_renamed_and_removed, moved_between_pages, moves_refused, pages_full, puts_answered,
+    removed_between_pages, restored_token_gone, steps_unlucky, tokens_read, tokens_served,
 };
 pub use digest::{Digest, digest_of};
 pub use fault::{ErrorCode, SessionFault, StoreFault};
@@ -36,7 +37,8 @@ pub use live::{LiveItem, Place, Tombstone, Version};
 pub use reply::{Page, PageLink, Reply, Resync};
 pub use request::{Address, Request, RequestKind};
 pub use session_instances::{
-    fragments_refused, large_file_sent, session_completed, session_overtaken,
+    fragments_refused, large_file_sent, large_put_refused, session_completed, session_overtaken,
+    sessions_kept_apart,
 };
 pub use step::{DriveEvent, Step, Who};
 pub use token::Token;

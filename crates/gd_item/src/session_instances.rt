@@ -1,9 +1,9 @@
 //! Instances of upload sessions, each the contract of a function that does nothing.
 ghost use Rattle.std.specs.Prelude.{◌≡◌, ℕ, true, false, List, [], ◌∷◌, ◌++◌, length, codes, Some, None};
 ghost use Rattle.gd_item.specs.Answers.{answer_of, refused};
-ghost use Rattle.gd_item.specs.DriveLogs.{put_at, send_new, other, opened_log, overtaken_log, ten_bytes, first_part, second_part, third_part, begun_log, two_parts_log, sent_log, status_of_reply};
+ghost use Rattle.gd_item.specs.DriveLogs.{put_at, send_new, other, opened_log, overtaken_log, meddled_log, ten_bytes, first_part, second_part, third_part, begun_log, two_parts_log, sent_log, status_of_reply};
 ghost use Rattle.gd_item.specs.Refused.{refuse};
-ghost use Rattle.gd_item.specs.Steps.{held_by};
+ghost use Rattle.gd_item.specs.Steps.{held_by, is_fair};
 ghost use Rattle.gd_item.specs.declared.reply.Reply.TheVariants as reply;
 
 use crate::fault::ErrorCode;
@@ -45,4 +45,15 @@ pub fn fragments_refused()
     ensures multiple { (a : List ℕ) → length a ≡ 100 → answer_of opened_log 200 (Request.Fragment 1 0 99 1000 a) ≡ refused (refuse 400 ErrorCode.InvalidRange) }
     ensures range { (b : List ℕ) → length b ≡ 327680 → answer_of opened_log 200 (second_part b) ≡ refused (refuse 416 ErrorCode.InvalidRange) }
     ensures total { (a b : List ℕ) → length a ≡ 327680 → answer_of (begun_log a) 200 (Request.Fragment 1 327680 655359 655362 b) ≡ refused (refuse 400 ErrorCode.InvalidRequest) }
+{}
+
+/// A log in which another client names a session that this client opened does not occur.
+pub fn sessions_kept_apart()
+    ensures meddled { is_fair meddled_log ≡ false }
+    ensures others { is_fair (overtaken_log ++ other ten_bytes ∷ []) ≡ true }
+{}
+
+/// A file that is put at once has at most 4,194,304 bytes, whatever else there is to refuse.
+pub fn large_put_refused()
+    ensures { (path : List (List ℕ)) (bytes : List ℕ) → length bytes ≡ 4194305 → answer_of [] 200 (put_at path bytes) ≡ refused (refuse 413 ErrorCode.InvalidRequest) }
 {}
