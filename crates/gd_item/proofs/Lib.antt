@@ -4,6 +4,7 @@ pub mod Effects
 pub mod Hex
 pub mod LogsFeed
 pub mod LogsFragments
+pub mod LogsFull
 pub mod LogsGrow
 pub mod LogsSessions
 pub mod LogsVersions

@@ -75,7 +75,7 @@ refusal-fragment state session number first last total bytes fault found is =
     ap (λ o. or_else (by_session (fragment_fault state o first last total bytes)) (by_store (last_refusal state o last total bytes))) found
     ∙ ap (λ f. or_else (by_session f) (by_store (last_refusal state (Some session) last total bytes))) is
 
-after-accepted : (state : State) (request : Request) → refusal state request ≡ None → after_step state (other request) ≡ after_request state Other request
+pub after-accepted : (state : State) (request : Request) → refusal state request ≡ None → after_step state (other request) ≡ after_request state Other request
 after-accepted state request is = ap (λ o. cond (is_none o) (after_request state Other request) state) is
 
 after-refused : (state : State) (request : Request) (why : Refusal) → refusal state request ≡ Some why → after_step state (other request) ≡ state
@@ -84,7 +84,7 @@ after-refused state request why is = ap (λ o. cond (is_none o) (after_request s
 answer-accepted : (state : State) (size : ℕ) (request : Request) → refusal state request ≡ None → answer state size request ≡ reply_to state (after_request state Own request) size request
 answer-accepted state size request is = ap (λ o. answer_unless o state size request) is
 
-answer-refused : (state : State) (size : ℕ) (request : Request) (why : Refusal) → refusal state request ≡ Some why → answer state size request ≡ refused why
+pub answer-refused : (state : State) (size : ℕ) (request : Request) (why : Refusal) → refusal state request ≡ Some why → answer state size request ≡ refused why
 answer-refused state size request why is = ap (λ o. answer_unless o state size request) is
 
 -- the session with these bytes, and the drive that has it alone

@@ -1,5 +1,5 @@
 -- Some short logs of drives, and what of a reply tells it from others.
-use Rattle.std.specs.Prelude.{ℕ, true, false, List, [], ◌∷◌, ◌++◌, map, codes, Option, Some, None}
+use Rattle.std.specs.Prelude.{ℕ, true, false, List, [], ◌∷◌, ◌++◌, map, replicate, codes, Option, Some, None}
 use Rattle.gd_names.specs.declared.conflict.Conflict.{Conflict}
 use Rattle.gd_names.specs.declared.conflict.Conflict.TheVariants.{Fail, Replace}
 use Rattle.gd_item.specs.Ids.{item_id}
@@ -98,6 +98,10 @@ letters_log = other (put_at (codes "c" ∷ []) (codes "x")) ∷ other (put_at (c
 -- a put that lacked memory, and one whose reply was lost
 abbrev pub unlucky_log : List Step
 unlucky_log = Ask Other (put_at (codes "a" ∷ []) (codes "x")) false true ∷ Ask Other (put_at (codes "b" ∷ []) (codes "y")) true false ∷ []
+
+-- a file that is put so many times
+abbrev pub putting_log : ℕ → List ℕ → List Step
+putting_log times bytes = replicate times (other (put_at (codes "f" ∷ []) bytes))
 
 -- a session for a file `s` in the root
 abbrev pub opened_log : List Step

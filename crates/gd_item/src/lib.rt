@@ -37,8 +37,8 @@ pub use live::{LiveItem, Place, Tombstone, Version};
 pub use reply::{Page, PageLink, Reply, Resync};
 pub use request::{Address, Request, RequestKind};
 pub use session_instances::{
-    fragments_refused, large_file_sent, large_put_refused, session_completed, session_overtaken,
-    sessions_kept_apart,
+    drive_filled, fragments_refused, large_file_sent, large_put_refused, session_completed,
+    session_overtaken, sessions_kept_apart,
 };
 pub use step::{DriveEvent, Step, Who};
 pub use token::Token;

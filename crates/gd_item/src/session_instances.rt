@@ -1,9 +1,9 @@
 //! Instances of upload sessions, each the contract of a function that does nothing.
 ghost use Rattle.std.specs.Prelude.{◌≡◌, ℕ, true, false, List, [], ◌∷◌, ◌++◌, length, codes, Some, None};
 ghost use Rattle.gd_item.specs.Answers.{answer_of, refused};
-ghost use Rattle.gd_item.specs.DriveLogs.{put_at, send_new, other, opened_log, overtaken_log, meddled_log, ten_bytes, first_part, second_part, third_part, begun_log, two_parts_log, sent_log, status_of_reply};
+ghost use Rattle.gd_item.specs.DriveLogs.{put_at, send_new, other, opened_log, overtaken_log, meddled_log, putting_log, ten_bytes, first_part, second_part, third_part, begun_log, two_parts_log, sent_log, status_of_reply};
 ghost use Rattle.gd_item.specs.Refused.{refuse};
-ghost use Rattle.gd_item.specs.Steps.{held_by, is_fair};
+ghost use Rattle.gd_item.specs.Steps.{held_by, number_of, is_fair};
 ghost use Rattle.gd_item.specs.declared.reply.Reply.TheVariants as reply;
 
 use crate::fault::ErrorCode;
@@ -56,4 +56,10 @@ pub fn sessions_kept_apart()
 /// A file that is put at once has at most 4,194,304 bytes, whatever else there is to refuse.
 pub fn large_put_refused()
     ensures { (path : List (List ℕ)) (bytes : List ℕ) → length bytes ≡ 4194305 → answer_of [] 200 (put_at path bytes) ≡ refused (refuse 413 ErrorCode.InvalidRequest) }
+{}
+
+/// 128 puts of 4,194,304 bytes fill a drive, and then not a byte is taken.
+pub fn drive_filled()
+    ensures number { (bytes : List ℕ) → length bytes ≡ 4194304 → number_of (putting_log 128 bytes) ≡ 129 }
+    ensures next { (bytes : List ℕ) → length bytes ≡ 4194304 → answer_of (putting_log 128 bytes) 200 (put_at (codes "g" ∷ []) (codes "x")) ≡ refused (refuse 507 ErrorCode.QuotaLimitReached) }
 {}
