@@ -2,9 +2,16 @@ pub mod Adding
 pub mod Climbs
 pub mod Effects
 pub mod Hex
+pub mod LogsFeed
+pub mod LogsFragments
+pub mod LogsFull
+pub mod LogsGrow
+pub mod LogsSessions
+pub mod LogsVersions
 pub mod Moving
 pub mod Pairs
 pub mod Quotes
 pub mod Reaching
+pub mod ReadTokens
 pub mod Removing
 pub mod Soundness

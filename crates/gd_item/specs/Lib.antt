@@ -1,5 +1,6 @@
 pub mod Answers
 pub mod Children
+pub mod Completions
 pub mod DriveLogs
 pub mod Faults
 pub mod Ids

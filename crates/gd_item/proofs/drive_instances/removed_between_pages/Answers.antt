@@ -1,0 +1,11 @@
+use Rattle.std.proofs.Common.{refl}
+use Rattle.std.specs.Fmt.{digits}
+use Rattle.gd_item.proofs.drive_instances.removed_between_pages.Goals as goal
+
+pub returns-clause-second : goal.returns-clause-second
+unfolding digits
+returns-clause-second c = refl
+
+pub returns-clause-second_link : goal.returns-clause-second_link
+unfolding digits
+returns-clause-second_link c = refl

@@ -1,0 +1,27 @@
+-- How often the file of an upload session was made: its accepted fragments that reach the end of the whole length.
+use Rattle.std.specs.Prelude.{ℕ, ◌+◌, Bool, false, ◌&&◌, cond, List, [], ◌∷◌, nat_eq}
+use Rattle.gd_item.specs.Sessions.{State, new_state}
+use Rattle.gd_item.specs.Steps.{is_accepted, after_step}
+use Rattle.gd_item.specs.declared.request.Request.{Request}
+use Rattle.gd_item.specs.declared.request.Request.TheVariants.{Fragment}
+use Rattle.gd_item.specs.declared.step.Step.{Step}
+use Rattle.gd_item.specs.declared.step.Step.TheVariants.{Ask, Event}
+
+-- whether a request is a last fragment of a session
+abbrev pub is_last_of : ℕ → Request → Bool
+is_last_of session (Fragment number first last total bytes) = nat_eq number session && nat_eq (last + 1) total
+is_last_of session request = false
+
+-- whether a step completes a session
+abbrev pub completes : State → ℕ → Step → Bool
+completes state session (Ask who request served heard) = is_last_of session request && is_accepted state request served
+completes state session (Event event) = false
+
+-- how many of the steps do
+abbrev pub completions_after : State → ℕ → List Step → ℕ
+completions_after state session [] = 0
+completions_after state session (step ∷ steps) = cond (completes state session step) 1 0 + completions_after (after_step state step) session steps
+
+-- how many steps of a log complete a session
+abbrev pub completions : ℕ → List Step → ℕ
+completions session log = completions_after new_state session log
