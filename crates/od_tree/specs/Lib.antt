@@ -1,2 +1,3 @@
+pub mod Collisions
 pub mod Local
 pub mod Loss
