@@ -6,6 +6,7 @@ pub mod LogsFeed
 pub mod LogsFragments
 pub mod LogsFull
 pub mod LogsGrow
+pub mod LogsReceived
 pub mod LogsSessions
 pub mod LogsVersions
 pub mod Moving

@@ -110,7 +110,7 @@ numbered-request state who (SessionStatus session) all = all
 numbered-request state who (CancelSession session) all = kept-without (λ n. n ≤ length state.openers) session state.sessions all
 numbered-request state who (Delta token) all = all
 
-numbered-step : (state : State) (step : Step) → IsNumbered state → IsNumbered (after_step state step)
+pub numbered-step : (state : State) (step : Step) → IsNumbered state → IsNumbered (after_step state step)
 numbered-step state (Ask who request served heard) all = by (is_accepted state request served)
   where
     by : (b : Bool) → IsNumbered (cond b (after_request state who request) state)
@@ -194,7 +194,7 @@ unlisted-without number sessions =
     (without_session number sessions) (filter_passes (λ (s : Session). not (nat_eq s.number number)) sessions)
 
 -- a session of which a fragment is accepted was opened
-low-if-accepted : (state : State) (number first last total : ℕ) (bytes : List ℕ) (served : Bool) → IsNumbered state
+pub low-if-accepted : (state : State) (number first last total : ℕ) (bytes : List ℕ) (served : Bool) → IsNumbered state
     → is_accepted state (Fragment number first last total bytes) served ≡ true → number ≤ length state.openers
 low-if-accepted state number first last total bytes served numbered accepted = by (nat_lt (length state.openers) number) refl
   where

@@ -1,7 +1,8 @@
--- How often the file of an upload session was made: its accepted fragments that reach the end of the whole length.
-use Rattle.std.specs.Prelude.{ℕ, ◌+◌, Bool, false, ◌&&◌, cond, List, [], ◌∷◌, nat_eq}
+-- What the accepted fragments of an upload session brought, and how often its file was made.
+use Rattle.std.specs.Prelude.{ℕ, ◌+◌, Bool, false, ◌&&◌, cond, List, [], ◌∷◌, ◌++◌, length, sum_by, nat_eq}
 use Rattle.gd_item.specs.Sessions.{State, new_state}
 use Rattle.gd_item.specs.Steps.{is_accepted, after_step}
+use Rattle.gd_item.specs.declared.live.Version.{Version}
 use Rattle.gd_item.specs.declared.request.Request.{Request}
 use Rattle.gd_item.specs.declared.request.Request.TheVariants.{Fragment}
 use Rattle.gd_item.specs.declared.step.Step.{Step}
@@ -25,3 +26,25 @@ completions_after state session (step ∷ steps) = cond (completes state session
 -- how many steps of a log complete a session
 abbrev pub completions : ℕ → List Step → ℕ
 completions session log = completions_after new_state session log
+
+-- the bytes that a request brings a session
+abbrev pub bytes_for : ℕ → Request → List ℕ
+bytes_for session (Fragment number first last total bytes) = cond (nat_eq number session) bytes []
+bytes_for session request = []
+
+-- the bytes that a step brings it, if it is accepted
+abbrev pub received_at : State → ℕ → Step → List ℕ
+received_at state session (Ask who request served heard) = cond (is_accepted state request served) (bytes_for session request) []
+received_at state session (Event event) = []
+
+abbrev pub received_after : State → ℕ → List Step → List ℕ
+received_after state session [] = []
+received_after state session (step ∷ steps) = received_at state session step ++ received_after (after_step state step) session steps
+
+-- the joined bytes of a session's accepted fragments
+abbrev pub received : ℕ → List Step → List ℕ
+received session log = received_after new_state session log
+
+-- the bytes of versions, counted
+abbrev pub bytes_in : List Version → ℕ
+bytes_in versions = sum_by (λ version. length version.bytes) versions

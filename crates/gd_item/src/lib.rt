@@ -31,7 +31,9 @@ pub use instances::{file_replaced, folder_refusals, folder_removed, taken_name_p
 pub use item::{Item, Kind, Tag, ctag_of, etag_of};
 pub use laws::{ids_read_back, tokens_read_back};
 pub use log_laws::{
-    a_session_completes_once, a_version_is_accepted, accepted_versions_stay, numbers_never_fall, pages_give_each_change_once,
+    a_session_completes_once, a_version_is_accepted, accepted_versions_stay,
+    kept_bytes_are_those_of_versions, numbers_never_fall, pages_give_each_change_once,
+    session_bytes_are_those_received,
 };
 pub use live::{LiveItem, Place, Tombstone, Version};
 pub use reply::{Page, PageLink, Reply, Resync};

@@ -1,9 +1,10 @@
 //! Laws of the drive's log, each the contract of a function that does nothing.
 ghost use Rattle.std.specs.Prelude.{◌≡◌, ℕ, ◌<◌, ◌≤◌, List, ◌++◌, take, Some};
 ghost use Rattle.std.specs.List.{Any, AllPairs};
-ghost use Rattle.gd_item.specs.Completions.{completions};
+ghost use Rattle.gd_item.specs.Completions.{completions, received, bytes_in};
 ghost use Rattle.gd_item.specs.Inventory.{Inventory};
 ghost use Rattle.gd_item.specs.Records.{feed, last_of};
+ghost use Rattle.gd_item.specs.Sessions.{Session, session_at};
 ghost use Rattle.gd_item.specs.Steps.{state_of, held_by, number_of, accepted_by};
 ghost use Rattle.gd_item.specs.Versions.{version_at};
 
@@ -41,4 +42,14 @@ pub fn pages_give_each_change_once()
 /// An upload session is completed at most once.
 pub fn a_session_completes_once()
     ensures { (session : ℕ) (log : List Step) → completions session log ≤ 1 }
+{}
+
+/// The bytes of an upload session that lives are those of its accepted fragments, joined.
+pub fn session_bytes_are_those_received()
+    ensures { (log : List Step) (number : ℕ) (session : Session) → session_at number (state_of log).sessions ≡ Some session → session.filled ≡ received number log }
+{}
+
+/// The kept bytes that count against the limit are those of all accepted versions.
+pub fn kept_bytes_are_those_of_versions()
+    ensures { (log : List Step) → (held_by log).kept ≡ bytes_in (accepted_by log) }
 {}
