@@ -112,3 +112,7 @@ answer state size request = answer_unless (refusal state request) state size req
 -- what it answers after the steps of a log
 abbrev pub answer_of : List Step → ℕ → Request → Reply
 answer_of log size request = answer (state_of log) size request
+
+-- the same where the drive may lack memory
+abbrev pub answer_served : Bool → State → ℕ → Request → Reply
+answer_served served state size request = cond served (answer state size request) unserved

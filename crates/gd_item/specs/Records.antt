@@ -1,5 +1,5 @@
 -- The record of an item in a reply, and the feed: the records of what changed, in order of change number.
-use Rattle.std.specs.Prelude.{ℕ, ◌-◌, Bool, ◌&&◌, cond, List, [], ◌∷◌, ◌++◌, length, take, count_by, codes, nat_eq, nat_lt, slice_index, Option, Some, None}
+use Rattle.std.specs.Prelude.{ℕ, ◌-◌, Bool, ◌&&◌, cond, List, [], ◌∷◌, ◌++◌, length, take, map, count_by, codes, nat_eq, nat_lt, slice_index, Option, Some, None}
 use Rattle.std.specs.Option.{option_map}
 use Rattle.std.specs.Ordering.{nat_cmp}
 use Rattle.std.specs.BTreeMap.{insert_entry}
@@ -65,6 +65,10 @@ root_record items = record {
   ctag = None;
   kind = Folder (child_count 1 items);
 }
+
+-- the records of all that a drive holds, the root's first
+abbrev pub records_of : Inventory → List Item
+records_of held = root_record held.items ∷ map (record_of held.items) held.items
 
 -- the record of a removed item
 abbrev pub deleted_record : Tombstone → Item

@@ -20,7 +20,7 @@ impl Exact for Who {
 /// What happens to a drive without a request.
 #[derive(Clone, Copy, Debug, PartialEq, Eq)]
 pub enum DriveEvent {
-    /// Tokens up to this change number are no longer served.
+    /// Tokens that were given out below this change number are no longer served.
     Expire(u64),
     /// The drive is restored from elsewhere: no token of before is served.
     Restore,

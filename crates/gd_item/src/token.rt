@@ -7,7 +7,7 @@ use gd_names::Exact;
 pub struct Token {
     /// The drive's epoch when the enumeration began.
     pub epoch: u64,
-    /// The change number of the last record that was sent.
+    /// The change number up to which all was sent: that of the last record, or the drive's where no more followed.
     pub position: u64,
     /// The drive's number when the enumeration began: what was removed up to there was never sent.
     pub start: u64,

@@ -1,5 +1,5 @@
 -- The items of a pull print as the drive's tree does.
-use Rattle.std.proofs.Common.{◌≡◌, ℕ, ◌+◌, List, [], ◌∷◌, ◌++◌, codes, length, Option, Some, None, refl, sym, ap, ◌∙◌, append_assoc}
+use Rattle.std.proofs.Common.{◌≡◌, ℕ, ◌+◌, List, [], ◌∷◌, ◌++◌, codes, length, Option, Some, None, refl, sym, ap, ◌∙◌, subst, append_assoc}
 use Rattle.std.specs.Fmt.{decimal}
 use Rattle.std.specs.List.{flat_map}
 use Rattle.gd_item.specs.Inventory.{Inventory, Effect, inventory}
@@ -8,14 +8,23 @@ use Rattle.gd_item.specs.Trees.{tree_of, in_order}
 use Rattle.gd_item.specs.declared.item.Item.{Item}
 use Rattle.gd_item.specs.declared.live.LiveItem.{LiveItem}
 use Rattle.gd_item.proofs.Effects.{number-inventory}
-use Rattle.gd_store.specs.Stands.{Stands}
-use Rattle.od_mirror.specs.Drive.{records_of, placed_items}
-use Rattle.od_mirror.specs.Pulled.{paths_of}
+use Rattle.gd_item.specs.Sound.{IsItemMap}
+use Rattle.gd_store.specs.Stands as store
+use Rattle.std.specs.Map.{values_of}
+use Rattle.gd_item.specs.Records.{records_of}
+use Rattle.od_mirror.specs.Drive.{placed_items}
+use Rattle.od_mirror.specs.Pulled.{paths_of, with_records}
 use Rattle.od_mirror.proofs.Mapped.{mapped}
 use Rattle.od_mirror.proofs.Standing.{paths-of-placed, tree-of-placed}
-use Rattle.od_cli.specs.Played.{entry_line, pull_lines}
-use Rattle.od_cli.specs.Pulled.{item_line, kind_line}
-use Rattle.od_cli.proofs.Pulls.{sound-of}
+use Rattle.od_cli.specs.Played.{entry_line, pull_text}
+use Rattle.od_cli.specs.Pulled.{item_line, kind_line, whole_items}
+use Rattle.gd_item.specs.Steps.{state_of, held_by}
+use Rattle.gd_item.specs.declared.request.Request.TheVariants.{Delta}
+use Rattle.gd_item.specs.declared.step.Step.{Step}
+use Rattle.gd_api.specs.Drives.{DriveValue, Stands}
+use Rattle.od_cli.specs.Plays.{Plays, with_other}
+use Rattle.od_cli.specs.declared.line.Line.TheVariants.{Pull}
+use Rattle.od_cli.proofs.Pulls.{sound-of, records-are}
 
 -- an item prints as its entry does
 same-line : (path : List (List ℕ)) (bytes : Option (List ℕ)) (number : ℕ) (items : List LiveItem) → kind_line path (size_of bytes) (kind_at bytes number items) ≡ entry_line (path, bytes)
@@ -29,19 +38,33 @@ same-lines items (entry ∷ placed) =
     ∙ ap (λ lines. entry_line (entry.0, entry.1.bytes) ++ lines) (same-lines items placed)
 
 -- the lines of what was pulled are those of the tree
-pub tree-lines : (store : Inventory) (log : List Effect) (items : List Item) (paths : List (List (List ℕ) × Item)) → Stands store log → items ≡ records_of (inventory log) → paths ≡ paths_of items
-    → flat_map item_line paths ≡ flat_map entry_line (tree_of (inventory log))
-tree-lines store log items paths stands is are =
-    let held : Inventory = inventory log in
-    ap (λ (xs : List (List (List ℕ) × Item)). flat_map item_line xs) (are ∙ ap paths_of is ∙ paths-of-placed held (sound-of store log stands))
+pub tree-lines : (held : Inventory) → IsItemMap held → flat_map item_line (paths_of (records_of held)) ≡ flat_map entry_line (tree_of held)
+tree-lines held sound =
+    ap (λ (xs : List (List (List ℕ) × Item)). flat_map item_line xs) (paths-of-placed held sound)
     ∙ same-lines held.items (in_order (placed_items held)) ∙ sym (ap (λ (xs : List (List (List ℕ) × Option (List ℕ))). flat_map entry_line xs) (tree-of-placed held))
 
 -- a pull prints the drive's number and its tree
-pub pull-printed : (store : Inventory) (log : List Effect) (items : List Item) (paths : List (List (List ℕ) × Item)) (number : ℕ) (old first new : List ℕ) → Stands store log → items ≡ records_of (inventory log) → paths ≡ paths_of items
-    → number ≡ length log + 1 → first ≡ old ++ (codes "pull " ++ decimal number ++ codes "\n") → new ≡ first ++ flat_map item_line paths → new ≡ old ++ pull_lines (inventory log)
-pull-printed store log items paths number old first new stands is are own begins ends =
+pub pull-printed : (value : Inventory) (log : List Effect) (page : List Item) (paths : List (List (List ℕ) × Item)) (number : ℕ) (old first new : List ℕ) → store.Stands value log → page ≡ whole_items (inventory log)
+    → paths ≡ paths_of (values_of (with_records [] page)) → number ≡ length log + 1 → first ≡ old ++ (codes "pull" ++ codes " " ++ decimal number ++ codes "\n") → new ≡ first ++ flat_map item_line paths → new ≡ old ++ pull_text (inventory log)
+pull-printed value log page paths number old first new stands is are own begins ends =
     let named : number ≡ (inventory log).number = own ∙ sym (number-inventory log) in
-    let lines : flat_map item_line paths ≡ flat_map entry_line (tree_of (inventory log)) = tree-lines store log items paths stands is are in
+    let all : paths ≡ paths_of (records_of (inventory log)) = are ∙ ap paths_of (records-are page value log stands is) in
+    let lines : flat_map item_line paths ≡ flat_map entry_line (tree_of (inventory log)) =
+    ap (λ (xs : List (List (List ℕ) × Item)). flat_map item_line xs) all ∙ tree-lines (inventory log) (sound-of value log stands) in
     ends ∙ ap (λ f. f ++ flat_map item_line paths) (begins ∙ ap (λ n. old ++ (codes "pull " ++ decimal n ++ codes "\n")) named)
     ∙ append_assoc old (codes "pull " ++ decimal (inventory log).number ++ codes "\n") (flat_map item_line paths)
     ∙ ap (λ l. old ++ ((codes "pull " ++ decimal (inventory log).number ++ codes "\n") ++ l)) lines
+
+-- so the line was played
+pub pull-plays : (before after : DriveValue) (value : Inventory) (old first new : List ℕ) (page : List Item) (paths slice : List (List (List ℕ) × Item)) (number : ℕ) → value ≡ before.store
+    → ((effects : List Effect) → store.Stands value effects → number ≡ length effects + 1)
+    → ((log : List Step) → Stands before log → (page ≡ whole_items (held_by log)) × Stands after (with_other log (Delta None))) → after.size ≡ before.size
+    → paths ≡ paths_of (values_of (with_records [] page)) → slice ≡ paths → first ≡ old ++ (codes "pull" ++ codes " " ++ decimal number ++ codes "\n") → new ≡ first ++ flat_map item_line slice → Plays before after old new Pull
+pull-plays before after value old first new page paths slice number lent named asked size are same begins ends = record {
+  stands = λ log stands. (asked log stands).1;
+  printed = λ log stands.
+      let P : Inventory → Type 0 = λ v. store.Stands v (state_of log).effects in
+      pull-printed before.store (state_of log).effects page paths number old first new stands.store (asked log stands).0 are (named (state_of log).effects (subst P (sym lent) stands.store)) begins
+      (ends ∙ ap (λ (xs : List (List (List ℕ) × Item)). first ++ flat_map item_line xs) same);
+  size = size;
+}

@@ -1,22 +1,38 @@
 -- A fresh pull gives what the drive holds.
-use Rattle.std.proofs.Common.{◌≡◌, ℕ, ◌+◌, ◌-◌, ◌≤◌, Bool, true, false, cond, nat_lt, List, [], length, slice_index, is_some, Option, Some, None, refl, sym, ap, ◌∙◌, subst, arith}
+use Rattle.std.proofs.Common.{◌≡◌, ◌≢◌, ◌⊎◌, ℕ, ◌+◌, ◌-◌, ◌≤◌, Bool, true, false, cond, nat_lt, List, [], ◌∷◌, ◌++◌, length, slice_index, is_some, Option, Some, None, inl, inr, refl, sym, ap, ◌∙◌, subst, arith}
 use Rattle.std.proofs.lemmas.List.{take_all}
 use Rattle.std.proofs.lemmas.Map.Entries.{length-values_of}
 use Rattle.std.specs.Map.{keys_of, values_of}
+use Rattle.gd_item.specs.Answers.{unserved}
 use Rattle.gd_item.specs.Inventory.{Inventory, Effect, inventory}
 use Rattle.gd_item.specs.Records.{feed, first_of, last_of}
+use Rattle.gd_item.specs.Sessions.{held}
 use Rattle.gd_item.specs.Sound.{IsItemMap}
+use Rattle.gd_item.specs.Steps.{state_of, held_by}
 use Rattle.gd_item.specs.declared.item.Item.{Item}
 use Rattle.gd_item.specs.declared.reply.Page.{Page}
+use Rattle.gd_item.specs.declared.reply.PageLink.{PageLink}
 use Rattle.gd_item.specs.declared.reply.PageLink.TheVariants as link
+use Rattle.gd_item.specs.declared.reply.Reply.{Reply}
+use Rattle.gd_item.specs.declared.reply.Reply.TheVariants as reply
+use Rattle.gd_item.specs.declared.request.Request.TheVariants.{Delta}
+use Rattle.gd_item.specs.declared.step.Step.{Step}
+use Rattle.gd_item.specs.declared.step.Step.TheVariants.{Ask}
+use Rattle.gd_item.specs.declared.step.Who.{Who}
+use Rattle.gd_item.specs.declared.step.Who.TheVariants.{Other}
 use Rattle.gd_item.proofs.Effects.{number-inventory}
-use Rattle.gd_store.specs.Stands.{Stands}
+use Rattle.gd_api.specs.Drives.{DriveValue, Stands, Handles, is_about_session}
+use Rattle.gd_api.specs.WholePage.{answer_now, whole_page}
+use Rattle.gd_store.specs.Stands as store
 use Rattle.gd_store.proofs.Allowed.{not-below}
-use Rattle.od_mirror.specs.Drive.{records_of}
-use Rattle.od_mirror.specs.Pulled.{Pulled, begun, after_page, nodes, is_bad, IsLeastBad}
+use Rattle.gd_item.specs.Records.{records_of}
+use Rattle.od_mirror.specs.Pulled.{Pulled, begun, after_link, after_page, with_records, nodes, is_bad, IsLeastBad, taken_of}
+use Rattle.od_mirror.specs.declared.mirror.Taken.{Taken}
+use Rattle.od_mirror.specs.declared.mirror.Taken.TheVariants.{Last, More}
 use Rattle.od_mirror.proofs.Feed.{feed-from-start}
 use Rattle.od_mirror.proofs.Standing.{records-fit}
-use Rattle.od_cli.specs.Pulled.{whole_page, token_text}
+use Rattle.od_cli.specs.Plays.{IsDrive, with_other}
+use Rattle.od_cli.specs.Pulled.{whole_items, IsWhole}
 use Rattle.od_cli.proofs.Removals.{no-removals}
 
 none-given : (b : Bool) (x : ℕ) → cond b (Some x) None ≡ None → b ≡ false
@@ -34,34 +50,73 @@ all-given most changes none =
     let same : length (values_of changes) ≡ length changes = length-values_of changes in
     take_all most (values_of changes) (omega arith)
 
--- the page is that of a fresh enumeration
-pub page-is : (items : List Item) (more : Option ℕ) (number most : ℕ) (token : List ℕ) (log : List Effect) → number ≡ length log + 1
-    → items ≡ first_of most (feed (inventory log) 0 number) → more ≡ last_of most (feed (inventory log) 0 number) → more ≡ None → token ≡ token_text number
-    → record { items = items; link = link.Delta token } ≡ whole_page (inventory log)
-page-is items more number most token log is given last none named =
+-- the records are those of a fresh enumeration
+pub items-are : (items : List Item) (more : Option ℕ) (number most : ℕ) (log : List Effect) → number ≡ length log + 1
+    → items ≡ first_of most (feed (inventory log) 0 number) → more ≡ last_of most (feed (inventory log) 0 number) → more ≡ None → items ≡ whole_items (inventory log)
+items-are items more number most log is given last none =
     let own : number ≡ (inventory log).number = is ∙ sym (number-inventory log) in
-    let all : items ≡ values_of (feed (inventory log) 0 (inventory log).number) =
-    given ∙ all-given most (feed (inventory log) 0 number) (sym last ∙ none) ∙ ap (λ n. values_of (feed (inventory log) 0 n)) own in
-    let text : token ≡ token_text (inventory log).number = named ∙ ap token_text own in
-    λ i. record { items = all i; link = link.Delta (text i) }
+    given ∙ all-given most (feed (inventory log) 0 number) (sym last ∙ none) ∙ ap (λ n. values_of (feed (inventory log) 0 n)) own
 
 -- what the store's effects make is a tree
-pub sound-of : (store : Inventory) (log : List Effect) → Stands store log → IsItemMap (inventory log)
-sound-of store log stands = subst IsItemMap stands.held stands.sound
+pub sound-of : (held : Inventory) (log : List Effect) → store.Stands held log → IsItemMap (inventory log)
+sound-of held log stands = subst IsItemMap stands.held stands.sound
 
--- what was pulled is what the drive holds
-pub pulled-is : (store : Inventory) (log : List Effect) (none : List Item) (page : Page) (before after : Pulled) → Stands store log → page ≡ whole_page (inventory log) → none ≡ []
-    → before ≡ begun none None → after ≡ after_page before page → values_of after.items ≡ records_of (inventory log)
-pulled-is store log none page before after stands whole empty start taken =
-    let first : before ≡ begun [] None = start ∙ ap (λ (xs : List Item). begun xs None) empty in
-    let all : after ≡ after_page (begun [] None) (whole_page (inventory log)) =
-    taken ∙ ap (λ (p : Pulled). after_page p page) first ∙ ap (λ (p : Page). after_page (begun [] None) p) whole in
-    ap (λ (p : Pulled). values_of p.items) all ∙ feed-from-start (inventory log) (sound-of store log stands) (inventory log).number (no-removals log 0)
+-- a store's page of a fresh enumeration is one of a drive
+pub whole-of : (page : Page) (held : Inventory) (log : List Effect) → store.Stands held log → page.items ≡ whole_items (inventory log) → taken_of page.link ≡ Last → IsWhole page
+whole-of page held log stands is last = record { drive = inventory log; sound = sound-of held log stands; no_removals = no-removals log 0; items = is; last = last }
+
+after-link : (items : List (ℕ × Item)) (l : PageLink) → (after_link items l).items ≡ items
+after-link items (link.Next token) = refl
+after-link items (link.Delta token) = refl
+
+-- what was pulled is what the page has
+pub pulled-is : (none : List Item) (page : Page) (before after : Pulled) → none ≡ [] → before ≡ begun none None → after ≡ after_page before page → values_of after.items ≡ values_of (with_records [] page.items)
+pulled-is none page before after empty start taken =
+    ap (λ (p : Pulled). values_of p.items) taken ∙ ap values_of (after-link (with_records before.items page.items) page.link)
+    ∙ ap (λ (p : Pulled). values_of (with_records p.items page.items)) (start ∙ ap (λ (xs : List Item). begun xs None) empty)
+
+-- the records of a fresh enumeration give what the drive holds
+pub records-are : (items : List Item) (held : Inventory) (log : List Effect) → store.Stands held log → items ≡ whole_items (inventory log) → values_of (with_records [] items) ≡ records_of (inventory log)
+records-are items held log stands is =
+    ap (λ (xs : List Item). values_of (with_records [] xs)) is ∙ feed-from-start (inventory log) (sound-of held log stands) (inventory log).number (no-removals log 0)
 
 -- so its pages are never bad
-pub never-bad : (store : Inventory) (log : List Effect) (after : Pulled) (number : ℕ) → Stands store log → values_of after.items ≡ records_of (inventory log) → IsLeastBad (nodes (values_of after.items)) number → ⊥
-never-bad store log after number stands is bad =
-    let fit : is_bad (nodes (records_of (inventory log))) number ≡ false = records-fit (inventory log) (sound-of store log stands) number in
-    let here : is_bad (nodes (values_of after.items)) number ≡ is_bad (nodes (records_of (inventory log))) number = ap (λ (xs : List Item). is_bad (nodes xs) number) is in
+pub never-bad : (page : Page) (after : Pulled) (number : ℕ) → IsWhole page → values_of after.items ≡ values_of (with_records [] page.items) → IsLeastBad (nodes (values_of after.items)) number → ⊥
+never-bad page after number whole is bad =
+    let gives : values_of (with_records [] page.items) ≡ records_of whole.drive =
+    ap (λ (xs : List Item). values_of (with_records [] xs)) whole.items ∙ feed-from-start whole.drive whole.sound whole.drive.number whole.no_removals in
+    let fit : is_bad (nodes (records_of whole.drive)) number ≡ false = records-fit whole.drive whole.sound number in
+    let here : is_bad (nodes (values_of after.items)) number ≡ is_bad (nodes (records_of whole.drive)) number = ap (λ (xs : List Item). is_bad (nodes xs) number) (is ∙ gives) in
     let yes : is_bad (nodes (values_of after.items)) number ≡ true = bad.bad in
     cc
+
+abbrev Answered : DriveValue → DriveValue → List Step → Reply → Type 0
+Answered before after log r =
+    ((r ≡ answer_now (state_of log) before.size (Delta None)) × ((who : Who) (heard : Bool) → Stands after (log ++ Ask who (Delta None) true heard ∷ [])))
+    ⊎ ((r ≡ unserved) × (after ≡ before) × ((who : Who) (heard : Bool) → Stands after (log ++ Ask who (Delta None) false heard ∷ [])))
+
+page-items : Reply → List Item
+page-items (reply.Page page) = page.items
+page-items r = []
+
+page-taken : Reply → Taken
+page-taken (reply.Page page) = taken_of page.link
+page-taken r = More
+
+-- the page that the drive answers
+page-by : (before after : DriveValue) (log : List Step) (r : Reply) (page : Page) → r ≡ reply.Page page → Answered before after log r
+    → (page.items ≡ whole_items (held_by log)) × (taken_of page.link ≡ Last) × Stands after (with_other log (Delta None))
+unfolding page-items page-taken
+page-by before after log r page is (inl found) = (ap page-items (sym is ∙ found.0), ap page-taken (sym is ∙ found.0), found.1 Other true)
+page-by before after log r page is (inr none) = let odd : reply.Page page ≡ unserved = sym is ∙ none.0 in absurd cc
+
+module _ (before after : DriveValue) (r : Reply) (page : Page) (is : r ≡ reply.Page page)
+  (handled : (log : List Step) → Stands before log → is_about_session (Delta None) ≡ false → Handles before after log (Delta None) r (answer_now (state_of log) before.size (Delta None))) where
+  found : (log : List Step) → Stands before log → (page.items ≡ whole_items (held_by log)) × (taken_of page.link ≡ Last) × Stands after (with_other log (Delta None))
+  found log stands = page-by before after log r page is (handled log stands refl).answered
+
+  pub page-is : (log : List Step) → Stands before log → (page.items ≡ whole_items (held_by log)) × Stands after (with_other log (Delta None))
+  page-is log stands = ((found log stands).0, (found log stands).2)
+
+  pub page-whole : IsDrive before → IsWhole page
+  page-whole drive = whole-of page before.store (state_of drive.log).effects drive.stands.store (found drive.log drive.stands).0 (found drive.log drive.stands).1

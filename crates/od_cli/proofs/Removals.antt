@@ -1,9 +1,10 @@
 -- No item was removed after the drive's own number.
-use Rattle.std.proofs.Common.{◌≡◌, ℕ, ◌+◌, ◌≤◌, Bool, true, false, ◌&&◌, cond, nat_eq, nat_lt, List, [], ◌∷◌, ◌++◌, refl, ap, ◌∙◌, arith}
+use Rattle.std.proofs.Common.{◌≡◌, ℕ, ◌+◌, ◌≤◌, Bool, true, false, ◌&&◌, cond, nat_eq, nat_lt, List, [], ◌∷◌, ◌++◌, Option, Some, None, refl, ap, ◌∙◌, arith}
 use Rattle.std.proofs.lemmas.Bool.Decides.{nat_tests}
-use Rattle.gd_item.specs.Inventory.{Effect, MadeFolder, PutNew, PutOver, Moved, Removed, Tombstone, Inventory, tombstones, after, after_all, new_drive, inventory}
+use Rattle.gd_item.specs.Inventory.{Effect, MadeFolder, PutNew, PutOver, Moved, Removed, Inventory, live_at, tombstone_of, after, after_all, new_drive, inventory}
 use Rattle.gd_item.specs.Records.{removals, deleted_record}
 use Rattle.gd_item.specs.declared.live.LiveItem.{LiveItem}
+use Rattle.gd_item.specs.declared.live.Tombstone.{Tombstone}
 
 -- each was removed at this number at the latest
 abbrev pub AreBy : ℕ → List Tombstone → Type 0
@@ -18,12 +19,9 @@ by-both : (number : ℕ) (stones others : List Tombstone) → AreBy number stone
 by-both number [] others by also = also
 by-both number (stone ∷ stones) others by also = (by.0, by-both number stones others by.1 also)
 
-by-now : (change number : ℕ) (items : List LiveItem) → AreBy change (tombstones change number items)
-by-now change number [] = tt
-by-now change number (item ∷ items) =
-    let rest : AreBy change (tombstones change number items) = by-now change number items in
-    elim (nat_eq item.number number) as (λ b. AreBy change (cond b (record { number = number; parent = item.parent; change = change } ∷ tombstones change number items) (tombstones change number items)))
-    [ true ↦ (omega arith, rest) | false ↦ rest ]
+by-now : (change : ℕ) (found : Option LiveItem) → AreBy change (tombstone_of change found)
+by-now change None = tt
+by-now change (Some item) = (omega arith, tt)
 
 by-after : (held : Inventory) (effect : Effect) → AreBy held.number held.removed → AreBy (after held effect).number (after held effect).removed
 by-after held (MadeFolder parent name) by = by-later held.number held.removed by
@@ -31,7 +29,7 @@ by-after held (PutNew parent name bytes) by = by-later held.number held.removed 
 by-after held (PutOver number bytes) by = by-later held.number held.removed by
 by-after held (Moved number parent name) by = by-later held.number held.removed by
 by-after held (Removed number) by =
-    by-both (held.number + 1) held.removed (tombstones (held.number + 1) number held.items) (by-later held.number held.removed by) (by-now (held.number + 1) number held.items)
+    by-both (held.number + 1) held.removed (tombstone_of (held.number + 1) (live_at number held.items)) (by-later held.number held.removed by) (by-now (held.number + 1) (live_at number held.items))
 
 by-all : (held : Inventory) (effects : List Effect) → AreBy held.number held.removed → AreBy (after_all held effects).number (after_all held effects).removed
 by-all held [] by = by

@@ -1,6 +1,5 @@
 -- The lines of a script that were read, before those that follow.
 use Rattle.std.proofs.Common.{◌≡◌, ℕ, ◌+◌, ◌<◌, ◌≤◌, Bool, true, false, List, ◌∷◌, ◌++◌, length, drop, get_or, nat_lt, Option, Some, Result, Ok, Err, sym, refl, ap, ◌∙◌, arith}
-use Rattle.std.proofs.lemmas.Bool.{cond-false, le-ltb}
 use Rattle.std.proofs.lemmas.List.{append_assoc, drop_more}
 use Rattle.od_cli.specs.declared.line.Line.{Line}
 use Rattle.od_cli.specs.Script.{line_of, joined, script_from}
@@ -16,13 +15,12 @@ after_joined lines found number (Err bad) = refl
 
 -- one more line was read
 pub line_read : (whole : Result (List Line) ℕ) (lines found next : List Line) (number index : ℕ) (texts : List (List ℕ)) (item text : List ℕ)
-    → index < length texts → number ≤ 1000 → item ≡ get_or texts index item → text ≡ item → line_of text ≡ Some found → next ≡ lines ++ found
+    → index < length texts → item ≡ get_or texts index item → text ≡ item → line_of text ≡ Some found → next ≡ lines ++ found
     → whole ≡ after_lines lines (script_from number (drop index texts)) → whole ≡ after_lines next (script_from (number + 1) (drop (index + 1) texts))
-line_read whole lines found next number index texts item text inside few is same read more before =
+line_read whole lines found next number index texts item text inside is same read more before =
     let rest = script_from (number + 1) (drop (index + 1) texts) in
     let cut : drop index texts ≡ text ∷ drop (index + 1) texts = drop_more texts index item inside ∙ ap (λ (x : List ℕ). x ∷ drop (index + 1) texts) (sym is ∙ sym same) in
     before
     ∙ (ap (λ (xs : List (List ℕ)). after_lines lines (script_from number xs)) cut
-    ∙ (ap (λ r. after_lines lines r) (cond-false (nat_lt 1000 number) (Err number) (joined number (line_of text) rest) (le-ltb 1000 number few))
     ∙ (ap (λ (line : Option (List Line)). after_lines lines (joined number line rest)) read
-    ∙ (after_joined lines found number rest ∙ ap (λ (xs : List Line). after_lines xs rest) (sym more)))))
+    ∙ (after_joined lines found number rest ∙ ap (λ (xs : List Line). after_lines xs rest) (sym more))))

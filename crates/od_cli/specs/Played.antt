@@ -1,58 +1,112 @@
--- What a script prints when it is played on a new drive: the refusals of other clients' calls, and at each pull
--- the drive's change number and the paths of its items, with sizes and digests.
-use Rattle.std.specs.Prelude.{ℕ, List, [], ◌∷◌, ◌++◌, length, codes, Option, Some, None}
-use Rattle.std.specs.List.{flat_map}
+-- What a script prints when it is played on a new drive: the refusals of other clients' calls, at each pull the drive's
+-- change number and the paths of its items with sizes and digests, and at `drive` the same with contents.
+use Rattle.std.specs.Prelude.{ℕ, Bool, true, ◌&&◌, cond, List, [], ◌∷◌, ◌++◌, length, replicate, codes, nat_le, Option, Some, None}
+use Rattle.std.specs.List.{flat_map, list_all}
+use Rattle.std.specs.Option.{option_map}
 use Rattle.std.specs.Fmt.{decimal}
 use Rattle.hex.specs.Hex.{encode_lower}
 use Rattle.sha2.specs.Sha256.{sha256}
 use Rattle.gd_names.specs.Paths.{path_text}
 use Rattle.gd_names.specs.declared.conflict.Conflict.TheVariants.{Fail, Replace}
-use Rattle.gd_item.specs.Faults.{status_of, code_of, code_text}
-use Rattle.gd_item.specs.Inventory.{Inventory, Effect, inventory}
-use Rattle.gd_item.specs.Places.{make_folder_at_refusal, make_folder_at_effect, put_at_refusal, put_at_effect}
+use Rattle.gd_item.specs.Answers.{answer}
+use Rattle.gd_item.specs.Faults.{code_text}
+use Rattle.gd_item.specs.Ids.{item_id}
+use Rattle.gd_item.specs.Inventory.{Inventory}
+use Rattle.gd_item.specs.Places.{names_above, last_name, folder_above}
+use Rattle.gd_item.specs.Sessions.{State, held}
+use Rattle.gd_item.specs.Steps.{state_of}
 use Rattle.gd_item.specs.Trees.{tree_of}
 use Rattle.gd_item.specs.declared.condition.Condition.TheVariants.{Free}
-use Rattle.gd_item.specs.declared.fault.StoreFault.{StoreFault}
+use Rattle.gd_item.specs.declared.fault.ErrorCode.{ErrorCode}
+use Rattle.gd_item.specs.declared.fault.ErrorCode.TheVariants.{ItemNotFound}
+use Rattle.gd_item.specs.declared.reply.Reply.{Reply}
+use Rattle.gd_item.specs.declared.reply.Reply.TheVariants as reply
+use Rattle.gd_item.specs.declared.request.Address.TheVariants.{ByPath}
+use Rattle.gd_item.specs.declared.request.Request.{Request}
+use Rattle.gd_item.specs.declared.request.Request.TheVariants.{MakeFolder, Put, Patch, Delete, Delta}
+use Rattle.gd_item.specs.declared.step.Step.{Step}
+use Rattle.gd_item.specs.declared.step.Step.TheVariants.{Ask}
+use Rattle.gd_item.specs.declared.step.Who.TheVariants.{Other}
+use Rattle.od_cli.specs.Script.{is_plain}
+use Rattle.od_cli.specs.declared.line.Content.{Content}
+use Rattle.od_cli.specs.declared.line.Content.TheVariants.{Text, Fill}
 use Rattle.od_cli.specs.declared.line.Line.{Line}
-use Rattle.od_cli.specs.declared.line.Line.TheVariants.{OtherPut, OtherMakeFolder, Pull}
+use Rattle.od_cli.specs.declared.line.Line.TheVariants.{OtherPut, OtherMakeFolder, OtherMove, OtherRemove, Pull, Drive}
+
+-- how many items a list of the drive has at most
+abbrev pub page_size : ℕ
+page_size = 200
+
+-- the bytes of a content
+abbrev pub content_bytes : Content → List ℕ
+content_bytes (Text bytes) = bytes
+content_bytes (Fill count byte) = replicate count byte
+
+-- what another client asks for, if anything; the folder above the new path of a move may be missing
+abbrev pub request_of : Inventory → Line → Option Request
+request_of held (OtherPut path content) = Some (Put (ByPath path) (content_bytes content) Replace Free)
+request_of held (OtherMakeFolder path) = Some (MakeFolder (ByPath (names_above path)) (last_name path) Fail)
+request_of held (OtherMove from to) =
+    option_map (λ parent. Patch (ByPath from) (Some (last_name to)) (Some (item_id parent)) Free) (folder_above held to)
+request_of held (OtherRemove path) = Some (Delete (ByPath path) Free)
+request_of held Pull = Some (Delta None)
+request_of held Drive = None
 
 -- the line of a refusal: `other`, the status and the code
-abbrev pub refusal_line : StoreFault → List ℕ
-refusal_line fault = codes "other " ++ decimal (status_of fault) ++ codes " " ++ code_text (code_of fault) ++ codes "\n"
+abbrev pub refusal_line : ℕ → ErrorCode → List ℕ
+refusal_line status code = codes "other " ++ decimal status ++ codes " " ++ code_text code ++ codes "\n"
+
+-- what another client's request prints: its refusal, if it is refused
+abbrev pub reply_text : Reply → List ℕ
+reply_text (reply.Refused status code) = refusal_line status code
+reply_text reply = []
+
+abbrev pub request_text : State → Option Request → List ℕ
+request_text state None = refusal_line 404 ItemNotFound
+request_text state (Some request) = reply_text (answer state page_size request)
+
+-- the step that it is
+abbrev pub request_steps : Option Request → List Step
+request_steps None = []
+request_steps (Some request) = Ask Other request true true ∷ []
 
 -- what an entry of a tree prints: `PATH/` for a folder, and `PATH SIZE DIGEST` for a file
+abbrev pub digest_text : List ℕ → List ℕ
+digest_text bytes = encode_lower (sha256 bytes)
+
 abbrev pub entry_line : List (List ℕ) × Option (List ℕ) → List ℕ
 entry_line (path, None) = path_text path ++ codes "/\n"
-entry_line (path, Some bytes) = path_text path ++ codes " " ++ decimal (length bytes) ++ codes " " ++ encode_lower (sha256 bytes) ++ codes "\n"
+entry_line (path, Some bytes) = path_text path ++ codes " " ++ decimal (length bytes) ++ codes " " ++ digest_text bytes ++ codes "\n"
 
 -- what a pull prints
-abbrev pub pull_lines : Inventory → List ℕ
-pull_lines held = codes "pull " ++ decimal held.number ++ codes "\n" ++ flat_map entry_line (tree_of held)
+abbrev pub pull_text : Inventory → List ℕ
+pull_text held = codes "pull " ++ decimal held.number ++ codes "\n" ++ flat_map entry_line (tree_of held)
 
--- what another client's call prints, and what it does
-abbrev pub refused_lines : Option StoreFault → List ℕ
-refused_lines None = []
-refused_lines (Some fault) = refusal_line fault
+-- a content of at most 64 bytes that may be quoted is shown, and of another one the digest
+abbrev pub content_text : List ℕ → List ℕ
+content_text bytes = cond (nat_le (length bytes) 64 && list_all is_plain bytes) (codes "\"" ++ bytes ++ codes "\"") (digest_text bytes)
 
-abbrev pub done_effects : Option StoreFault → Effect → List Effect
-done_effects None effect = effect ∷ []
-done_effects (Some fault) effect = []
+abbrev pub content_line : List (List ℕ) × Option (List ℕ) → List ℕ
+content_line (path, None) = path_text path ++ codes "/\n"
+content_line (path, Some bytes) = path_text path ++ codes " " ++ decimal (length bytes) ++ codes " " ++ content_text bytes ++ codes "\n"
 
--- what a line prints, and what it does, on a drive that holds this
-abbrev pub line_text : Inventory → Line → List ℕ
-line_text held (OtherPut path bytes) = refused_lines (put_at_refusal held path bytes Replace Free 0)
-line_text held (OtherMakeFolder path) = refused_lines (make_folder_at_refusal held path Fail)
-line_text held Pull = pull_lines held
+-- what `drive` prints
+abbrev pub drive_text : Inventory → List ℕ
+drive_text held = codes "drive " ++ decimal held.number ++ codes "\n" ++ flat_map content_line (tree_of held)
 
-abbrev pub line_effects : Inventory → Line → List Effect
-line_effects held (OtherPut path bytes) = done_effects (put_at_refusal held path bytes Replace Free 0) (put_at_effect held path bytes Replace)
-line_effects held (OtherMakeFolder path) = done_effects (make_folder_at_refusal held path Fail) (make_folder_at_effect held path Fail)
-line_effects held Pull = []
+-- what a line prints, and the steps that it adds, after the steps of a log
+abbrev pub line_text : List Step → Line → List ℕ
+line_text log Pull = pull_text (held (state_of log))
+line_text log Drive = drive_text (held (state_of log))
+line_text log line = request_text (state_of log) (request_of (held (state_of log)) line)
 
--- what the lines print on a drive with these effects
-abbrev pub played_from : List Effect → List Line → List ℕ
+abbrev pub line_steps : List Step → Line → List Step
+line_steps log line = request_steps (request_of (held (state_of log)) line)
+
+-- what the lines print after the steps of a log
+abbrev pub played_from : List Step → List Line → List ℕ
 played_from log [] = []
-played_from log (line ∷ lines) = line_text (inventory log) line ++ played_from (log ++ line_effects (inventory log) line) lines
+played_from log (line ∷ lines) = line_text log line ++ played_from (log ++ line_steps log line) lines
 
 -- what the lines print on a new drive
 abbrev pub played : List Line → List ℕ

@@ -1,17 +1,20 @@
--- What an item that was pulled prints.
-use Rattle.std.specs.Prelude.{ℕ, List, [], ◌++◌, codes}
+-- What items that were pulled print.
+use Rattle.std.specs.Prelude.{◌≡◌, ℕ, List, [], ◌++◌, codes, Option, None}
 use Rattle.std.specs.Fmt.{decimal}
+use Rattle.std.specs.Map.{values_of}
 use Rattle.hex.specs.Hex.{encode_lower}
 use Rattle.gd_names.specs.Paths.{path_text}
-use Rattle.std.specs.Map.{values_of}
-use Rattle.gd_item.specs.Inventory.{Inventory, Effect}
-use Rattle.gd_item.specs.Records.{feed}
-use Rattle.gd_item.specs.declared.reply.Page.{Page}
-use Rattle.gd_item.specs.declared.reply.PageLink.TheVariants as link
-use Rattle.gd_store.specs.Stands.{Stands}
+use Rattle.gd_item.specs.Inventory.{Inventory}
+use Rattle.gd_item.specs.Records.{feed, removals}
+use Rattle.gd_item.specs.Sound.{IsItemMap}
+use Rattle.gd_item.specs.Versions.{content_at, version_at}
 use Rattle.gd_item.specs.declared.item.Item.{Item}
 use Rattle.gd_item.specs.declared.item.Kind.{Kind}
 use Rattle.gd_item.specs.declared.item.Kind.TheVariants.{Folder, File, Deleted}
+use Rattle.gd_item.specs.declared.reply.Page.{Page}
+use Rattle.od_mirror.specs.Pulled.{taken_of}
+use Rattle.od_mirror.specs.declared.mirror.Taken.TheVariants.{Last}
+use Rattle.od_cli.specs.Played.{content_line}
 
 abbrev pub kind_line : List (List ℕ) → ℕ → Kind → List ℕ
 kind_line path size (Folder child_count) = path_text path ++ codes "/\n"
@@ -21,17 +24,24 @@ kind_line path size Deleted = []
 abbrev pub item_line : List (List ℕ) × Item → List ℕ
 item_line (path, item) = kind_line path item.size item.kind
 
--- the token of an enumeration that began and ended at this number, in the drive's first epoch
-abbrev pub token_text : ℕ → List ℕ
-token_text number = codes "t1." ++ decimal number ++ codes "." ++ decimal number
+-- the records of a fresh enumeration
+abbrev pub whole_items : Inventory → List Item
+whole_items held = values_of (feed held 0 held.number)
 
--- the one page of a fresh enumeration
-abbrev pub whole_page : Inventory → Page
-whole_page held = record {
-  items = values_of (feed held 0 held.number);
-  link = link.Delta (token_text held.number);
-}
+-- the page is the one page of a fresh enumeration of a drive
+pub record IsWhole (page : Page) : Type 0 where
+  pub drive : Inventory
+  pub sound : IsItemMap drive
+  pub no_removals : removals 0 drive.number drive.removed ≡ []
+  pub items : page.items ≡ whole_items drive
+  pub last : taken_of page.link ≡ Last
 
--- the store is that of a drive with some effects
-abbrev pub IsDrive : Inventory → Type 0
-IsDrive store = (log : List Effect) × Stands store log
+-- the bytes that a drive has of an item, if it is a file
+abbrev pub shown_kind : Inventory → ℕ → Kind → Option (List ℕ)
+shown_kind held number (Folder child_count) = None
+shown_kind held number (File digest) = version_at number (content_at number held) held
+shown_kind held number Deleted = None
+
+-- the line of a record with its content
+abbrev pub shown_line : Inventory → List (List ℕ) × Item → List ℕ
+shown_line held (path, item) = content_line (path, shown_kind held item.id.0 item.kind)

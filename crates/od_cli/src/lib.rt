@@ -15,7 +15,7 @@ mod script;
 mod status;
 mod words;
 
-pub use line::Line;
+pub use line::{Content, Line};
 pub use replay::replay_main;
 pub use script::{ScriptFault, read_script};
 pub use status::ReplayStatus;

@@ -1,12 +1,26 @@
 use gd_names::{Bytes, Path};
 
+/// The content of a file.
+#[derive(Debug, Drop)]
+pub enum Content {
+    Text(Bytes),
+    /// So many times this byte.
+    Fill(u32, u8),
+}
+
 /// A line of a replay script.
 #[derive(Debug, Drop)]
 pub enum Line {
     /// Another client puts a file at a path, over the one that is there.
-    OtherPut(Path, Bytes),
+    OtherPut(Path, Content),
     /// Another client makes a folder at a path.
     OtherMakeFolder(Path),
+    /// Another client moves an item to another path.
+    OtherMove(Path, Path),
+    /// Another client removes an item and all below it.
+    OtherRemove(Path),
     /// Another client pulls the drive afresh.
     Pull,
+    /// The drive's change number and its tree.
+    Drive,
 }

@@ -1,105 +1,161 @@
-ghost use Rattle.std.specs.Prelude.{◌≡◌, ◌++◌, ◌∷◌, [], List, Some, IfOk, OnOk, OnErr};
-ghost use Rattle.gd_item.specs.Inventory.{Effect, inventory};
-ghost use Rattle.gd_item.specs.Refusals.{put_refusal, put_effect, make_folder_refusal, make_folder_effect};
-ghost use Rattle.gd_item.specs.Places.{put_at_refusal, put_at_effect, make_folder_at_refusal, make_folder_at_effect};
-ghost use Rattle.gd_store.specs.Stands.{Stands, Answers};
-ghost use Rattle.od_cli.specs.Played.{line_text, line_effects, played};
-ghost use Rattle.od_cli.specs.Pulled.{IsDrive};
-ghost use Rattle.od_cli.specs.Plays.{Plays, IsPrinted};
+ghost use Rattle.std.specs.Prelude.{◌≡◌, ◌≢◌, ◌++◌, true, IfOk, OnOk};
+ghost use Rattle.gd_item.specs.Answers.{unserved};
+ghost use Rattle.od_cli.specs.Played.{content_bytes, played, reply_text};
+ghost use Rattle.od_cli.specs.Plays.{IsAsked, IsDrive, Plays, is_change};
 
 use crate::address::split_last;
-use crate::line::Line;
+use crate::line::{Content, Line};
 use crate::print::print_refusal;
-use crate::pull::print_pull;
-use gd_item::{Condition, ItemId, Place, StoreFault};
-use gd_names::{Bytes, Conflict, NoMemory, Path, Text};
-use gd_store::Store;
+use crate::pull::{print_drive, print_pull};
+use gd_api::Drive;
+use gd_item::{Address, Condition, ErrorCode, Reply, Request};
+use gd_names::{Bytes, Conflict, NoMemory, Path};
 use std::alloc::Global;
 
-/// Puts a file under a folder, over the one of its name if there is one.
-fn put_in(store: &mut Store, place: &Place, bytes: &[u8]) -> Result<(), StoreFault>
-    ensures answer { (log : List Effect) → Stands store.old log
-        → Answers (put_refusal (inventory log) place.now bytes.now Conflict.Replace Condition.Free 0) result
-        (λ _. Stands store.new (log ++ put_effect (inventory log) place.now bytes.now Conflict.Replace ∷ [])) }
-    ensures kept { OnErr result (store.new ≡ store.old) }
+/// How many items a list of the drive has at most.
+const PAGE_SIZE: u64 = 200;
+
+/// The bytes of a content.
+fn make_bytes(alloc: Global, content: &Content) -> Result<Bytes, NoMemory>
+    ensures { IfOk result (λ bytes. bytes ≡ content_bytes content.now) }
 {
-    match store.put(place, bytes, Conflict::Replace, &Condition::Free, 0) {
-        Ok(_) => Ok(()),
-        Err(fault) => Err(fault),
+    match content {
+        Content::Text(bytes) => Ok(bytes.clone()?),
+        Content::Fill(count, byte) => {
+            let filled = vec![in alloc; *byte; *count as usize]?;
+            Ok(Bytes::from_vec(filled))
+        }
     }
+}
+
+/// Prints a reply, if it is a refusal. Want of memory is none.
+fn print_reply(alloc: Global, out: &mut Bytes, reply: &Reply) -> Result<(), NoMemory>
+    ensures printed { OnOk result (out.new ≡ out.old ++ reply_text reply.now) }
+    ensures served { OnOk result (reply.now ≢ unserved) }
+{
+    match reply {
+        Reply::Refused { status, code } => {
+            if *status == 503 {
+                return Err(NoMemory);
+            }
+            print_refusal(alloc, out, *status, *code)
+        }
+        _ => Ok(()),
+    }
+}
+
+/// Another client asks the drive, and its refusal is printed.
+fn ask(
+    alloc: Global,
+    drive: &mut Drive,
+    out: &mut Bytes,
+    request: &Request,
+) -> Result<(), NoMemory>
+    requires { is_change request.now ≡ true }
+    ensures { OnOk result (IsAsked drive.old drive.new out.old out.new request.now) }
+{
+    let reply = drive.handle(request);
+    print_reply(alloc, out, &reply)
 }
 
 /// Another client puts a file at a path.
-fn put_at(alloc: Global, store: &mut Store, path: &Path, bytes: &[u8]) -> Result<(), StoreFault>
-    ensures answer { (log : List Effect) → Stands store.old log
-        → Answers (put_at_refusal (inventory log) path.now bytes.now Conflict.Replace Condition.Free 0) result
-        (λ _. Stands store.new (log ++ put_at_effect (inventory log) path.now bytes.now Conflict.Replace ∷ [])) }
-    ensures kept { OnErr result (store.new ≡ store.old) }
+fn put(
+    alloc: Global,
+    drive: &mut Drive,
+    out: &mut Bytes,
+    path: &Path,
+    content: &Content,
+) -> Result<(), NoMemory>
+    requires { IsDrive drive.old }
+    ensures { OnOk result (Plays drive.old drive.new out.old out.new (Line.OtherPut path.now content.now)) }
 {
-    let (above, name) = split_last(alloc, path)?;
-    match store.by_path(&above) {
-        None => Err(StoreFault::NotFound),
-        Some(parent) => put_in(store, &Place::Under(parent, name), bytes),
-    }
-}
-
-/// Makes a folder in a folder.
-fn make_folder_in(store: &mut Store, parent: ItemId, name: &Text) -> Result<(), StoreFault>
-    ensures answer { (log : List Effect) → Stands store.old log
-        → Answers (make_folder_refusal (inventory log) parent.0 name.now Conflict.Fail) result
-        (λ _. Stands store.new (log ++ make_folder_effect (inventory log) parent.0 name.now Conflict.Fail ∷ [])) }
-    ensures kept { OnErr result (store.new ≡ store.old) }
-{
-    match store.make_folder(parent, name, Conflict::Fail) {
-        Ok(_) => Ok(()),
-        Err(fault) => Err(fault),
-    }
+    let bytes = make_bytes(alloc, content)?;
+    let path = path.clone()?;
+    let request = Request::Put {
+        at: Address::ByPath(path),
+        bytes,
+        behaviour: Conflict::Replace,
+        condition: Condition::Free,
+    };
+    ask(alloc, drive, out, &request)
 }
 
 /// Another client makes a folder at a path.
-fn make_folder_at(alloc: Global, store: &mut Store, path: &Path) -> Result<(), StoreFault>
-    ensures answer { (log : List Effect) → Stands store.old log
-        → Answers (make_folder_at_refusal (inventory log) path.now Conflict.Fail) result
-        (λ _. Stands store.new (log ++ make_folder_at_effect (inventory log) path.now Conflict.Fail ∷ [])) }
-    ensures kept { OnErr result (store.new ≡ store.old) }
+fn make_folder(
+    alloc: Global,
+    drive: &mut Drive,
+    out: &mut Bytes,
+    path: &Path,
+) -> Result<(), NoMemory>
+    requires { IsDrive drive.old }
+    ensures { OnOk result (Plays drive.old drive.new out.old out.new (Line.OtherMakeFolder path.now)) }
 {
     let (above, name) = split_last(alloc, path)?;
-    match store.by_path(&above) {
-        None => Err(StoreFault::NotFound),
-        Some(parent) => make_folder_in(store, parent, &name),
+    let request = Request::MakeFolder {
+        at: Address::ByPath(above),
+        name,
+        behaviour: Conflict::Fail,
+    };
+    ask(alloc, drive, out, &request)
+}
+
+/// Another client moves an item to a path, whose folder may be missing.
+fn move_item(
+    alloc: Global,
+    drive: &mut Drive,
+    out: &mut Bytes,
+    from: &Path,
+    to: &Path,
+) -> Result<(), NoMemory>
+    requires { IsDrive drive.old }
+    ensures { OnOk result (Plays drive.old drive.new out.old out.new (Line.OtherMove from.now to.now)) }
+{
+    let (above, name) = split_last(alloc, to)?;
+    let path = from.clone()?;
+    match drive.store().by_path(&above) {
+        None => print_refusal(alloc, out, 404, ErrorCode::ItemNotFound),
+        Some(parent) => {
+            let request = Request::Patch {
+                at: Address::ByPath(path),
+                name: Some(name),
+                parent: Some(parent),
+                condition: Condition::Free,
+            };
+            ask(alloc, drive, out, &request)
+        }
     }
 }
 
-/// Prints why a call was refused, if it was. Want of memory is no refusal.
-fn print_answer(
+/// Another client removes what stands at a path.
+fn remove(
     alloc: Global,
+    drive: &mut Drive,
     out: &mut Bytes,
-    answer: Result<(), StoreFault>,
+    path: &Path,
 ) -> Result<(), NoMemory>
-    ensures { OnOk result (IsPrinted answer out.old out.new) }
+    requires { IsDrive drive.old }
+    ensures { OnOk result (Plays drive.old drive.new out.old out.new (Line.OtherRemove path.now)) }
 {
-    match answer {
-        Ok(()) => Ok(()),
-        Err(StoreFault::Memory) => Err(NoMemory),
-        Err(fault) => print_refusal(alloc, out, fault),
-    }
+    let path = path.clone()?;
+    let request = Request::Delete {
+        at: Address::ByPath(path),
+        condition: Condition::Free,
+    };
+    ask(alloc, drive, out, &request)
 }
 
 /// Plays one line.
-fn play_line(alloc: Global, store: &mut Store, out: &mut Bytes, line: &Line) -> Result<(), NoMemory>
-    requires { IsDrive store.old }
-    ensures { OnOk result (Plays store.old store.new out.old out.new line.now) }
+fn play_line(alloc: Global, drive: &mut Drive, out: &mut Bytes, line: &Line) -> Result<(), NoMemory>
+    requires { IsDrive drive.old }
+    ensures { OnOk result (Plays drive.old drive.new out.old out.new line.now) }
 {
     match line {
-        Line::OtherPut(path, bytes) => {
-            let answer = put_at(alloc, store, path, bytes.as_slice());
-            print_answer(alloc, out, answer)
-        }
-        Line::OtherMakeFolder(path) => {
-            let answer = make_folder_at(alloc, store, path);
-            print_answer(alloc, out, answer)
-        }
-        Line::Pull => print_pull(alloc, store, out),
+        Line::OtherPut(path, content) => put(alloc, drive, out, path, content),
+        Line::OtherMakeFolder(path) => make_folder(alloc, drive, out, path),
+        Line::OtherMove(from, to) => move_item(alloc, drive, out, from, to),
+        Line::OtherRemove(path) => remove(alloc, drive, out, path),
+        Line::Pull => print_pull(alloc, drive, out),
+        Line::Drive => print_drive(alloc, drive, out),
     }
 }
 
@@ -107,10 +163,10 @@ fn play_line(alloc: Global, store: &mut Store, out: &mut Bytes, line: &Line) -> 
 pub fn play(alloc: Global, lines: &[Line]) -> Result<Bytes, NoMemory>
     ensures { IfOk result (λ text. text ≡ played lines.now) }
 {
-    let mut store = Store::new(alloc)?;
+    let mut drive = Drive::new(alloc, PAGE_SIZE)?;
     let mut out = Bytes::new(alloc);
     for line in lines {
-        play_line(alloc, &mut store, &mut out, line)?;
+        play_line(alloc, &mut drive, &mut out, line)?;
     }
     Ok(out)
 }

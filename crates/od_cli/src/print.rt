@@ -1,30 +1,46 @@
-ghost use Rattle.std.specs.Prelude.{◌≡◌, ◌++◌, ◌∷◌, [], codes, take, IfOk, OnOk};
+ghost use Rattle.std.specs.Prelude.{◌≡◌, ◌++◌, List, Some, codes, length, IfOk, OnOk};
 ghost use Rattle.std.specs.List.{flat_map};
 ghost use Rattle.std.specs.Fmt.{decimal};
-ghost use Rattle.od_cli.specs.Played.{refusal_line};
-ghost use Rattle.od_cli.specs.Pulled.{item_line};
+ghost use Rattle.gd_item.specs.Inventory.{Effect, inventory};
+ghost use Rattle.gd_item.specs.Versions.{content_at, version_at};
+ghost use Rattle.gd_store.specs.Stands.{Stands};
+ghost use Rattle.od_cli.specs.Played.{content_text, refusal_line};
+ghost use Rattle.od_cli.specs.Pulled.{item_line, shown_line};
 ghost use Rattle.od_cli.specs.Replays.{bad_line_text};
 
-use gd_item::{Item, Kind, StoreFault};
+use crate::words::holds_plain;
+use gd_item::{ErrorCode, Item, ItemId, Kind, StoreFault, digest_of};
 use gd_names::{Bytes, NoMemory, Path};
+use gd_store::Store;
 use std::alloc::Global;
 
+/// How many bytes a content may have that is shown.
+const MOST_SHOWN: usize = 64;
+
 /// The line of a refusal.
-pub fn print_refusal(alloc: Global, out: &mut Bytes, fault: StoreFault) -> Result<(), NoMemory>
-    ensures { OnOk result (out.new ≡ out.old ++ refusal_line fault) }
+pub fn print_refusal(
+    alloc: Global,
+    out: &mut Bytes,
+    status: u16,
+    code: ErrorCode,
+) -> Result<(), NoMemory>
+    ensures { OnOk result (out.new ≡ out.old ++ refusal_line status code) }
 {
-    let status = fault.status();
-    let code = fault.code();
     let code = code.as_str();
     let text = format!(in alloc; "other {status} {code}\n")?;
     out.push_slice(text.as_bytes())
 }
 
-/// The first line of a pull.
-pub fn print_position(alloc: Global, out: &mut Bytes, position: u64) -> Result<(), NoMemory>
-    ensures { OnOk result (out.new ≡ out.old ++ (codes "pull " ++ decimal position ++ codes "\n")) }
+/// A word and a number: the first line of a pull, and that of `drive`.
+pub fn print_number(
+    alloc: Global,
+    out: &mut Bytes,
+    word: &str,
+    number: u64,
+) -> Result<(), NoMemory>
+    ensures { OnOk result (out.new ≡ out.old ++ (word.now ++ codes " " ++ decimal number ++ codes "\n")) }
 {
-    let text = format!(in alloc; "pull {position}\n")?;
+    let text = format!(in alloc; "{word} {number}\n")?;
     out.push_slice(text.as_bytes())
 }
 
@@ -64,6 +80,82 @@ pub fn print_items(alloc: Global, out: &mut Bytes, items: &[(Path, Item)]) -> Re
 {
     for (path, item) in items {
         print_item(alloc, out, path, item)?;
+    }
+    Ok(())
+}
+
+/// A content in quotes where it is short and may stand there, and else its digest.
+fn print_content(alloc: Global, out: &mut Bytes, bytes: &[u8]) -> Result<(), NoMemory>
+    ensures { OnOk result (out.new ≡ out.old ++ content_text bytes.now) }
+{
+    if bytes.len() <= MOST_SHOWN && holds_plain(bytes) {
+        out.push_slice(b"\"")?;
+        out.push_slice(bytes)?;
+        return out.push_slice(b"\"");
+    }
+    let digest = digest_of(bytes);
+    let digest = hex::encode(alloc, digest.0.as_slice())?;
+    out.push_slice(digest.as_bytes())
+}
+
+/// The line of a file at its path.
+fn print_file(alloc: Global, out: &mut Bytes, path: &str, bytes: &[u8]) -> Result<(), NoMemory>
+    ensures { OnOk result (out.new ≡ out.old ++ (path.now ++ codes " " ++ decimal (length bytes.now) ++ codes " " ++ content_text bytes.now ++ codes "\n")) }
+{
+    let size = bytes.len();
+    let text = format!(in alloc; "{path} {size} ")?;
+    out.push_slice(text.as_bytes())?;
+    print_content(alloc, out, bytes)?;
+    out.push_slice(b"\n")
+}
+
+/// The bytes that stand in a file.
+fn bytes_of(store: &Store, id: ItemId) -> Result<Bytes, StoreFault>
+    ensures { IfOk result (λ bytes. (log : List Effect) → Stands store.now log → version_at id.0 (content_at id.0 (inventory log)) (inventory log) ≡ Some bytes) }
+{
+    let content = store.content_number(id)?;
+    store.version(id, content)
+}
+
+/// The line of an item at its path, with its content if it is a file.
+fn print_shown(
+    alloc: Global,
+    out: &mut Bytes,
+    store: &Store,
+    path: &Path,
+    item: &Item,
+) -> Result<(), NoMemory>
+    ensures { OnOk result ((log : List Effect) → Stands store.now log → out.new ≡ out.old ++ shown_line (inventory log) (path.now, item.now)) }
+{
+    let path = path.write(alloc)?;
+    let path = path.as_str();
+    match item.kind {
+        Kind::File { .. } => match bytes_of(store, item.id) {
+            Ok(bytes) => print_file(alloc, out, path, bytes.as_slice()),
+            Err(_) => Err(NoMemory),
+        },
+        Kind::Folder { .. } => {
+            let text = format!(in alloc; "{path}/\n")?;
+            out.push_slice(text.as_bytes())
+        }
+        Kind::Deleted => {
+            let text = format!(in alloc; "{path}/\n")?;
+            out.push_slice(text.as_bytes())
+        }
+    }
+}
+
+/// The lines of items at their paths, with the contents that a store has.
+pub fn print_contents(
+    alloc: Global,
+    out: &mut Bytes,
+    store: &Store,
+    items: &[(Path, Item)],
+) -> Result<(), NoMemory>
+    ensures { OnOk result ((log : List Effect) → Stands store.now log → out.new ≡ out.old ++ flat_map (shown_line (inventory log)) items.now) }
+{
+    for (path, item) in items {
+        print_shown(alloc, out, store, path, item)?;
     }
     Ok(())
 }

@@ -1,50 +1,34 @@
-ghost use Rattle.std.specs.Prelude.{◌≡◌, ◌++◌, List, OnOk, IfOk};
+ghost use Rattle.std.specs.Prelude.{◌≡◌, ◌++◌, [], List, None, OnOk, IfOk, IfSome};
+ghost use Rattle.std.specs.Map.{values_of};
 ghost use Rattle.gd_item.specs.Inventory.{Effect, inventory};
+ghost use Rattle.gd_item.specs.Steps.{held_by};
+ghost use Rattle.gd_item.specs.declared.step.Step.{Step};
+ghost use Rattle.gd_api.specs.Drives as drives;
 ghost use Rattle.gd_store.specs.Stands.{Stands};
-ghost use Rattle.od_cli.specs.Played.{pull_lines};
-ghost use Rattle.od_cli.specs.Pulled.{whole_page, token_text, IsDrive};
-ghost use Rattle.od_mirror.specs.Drive.{records_of};
+ghost use Rattle.od_cli.specs.Played.{drive_text};
+ghost use Rattle.od_cli.specs.Plays.{IsDrive, Plays, with_other};
+ghost use Rattle.od_cli.specs.Pulled.{whole_items, IsWhole};
+ghost use Rattle.od_mirror.specs.Pulled.{with_records, paths_of, taken_of};
 
-use crate::print::{print_items, print_position};
-use gd_item::{Page, PageLink};
-use gd_names::{Bytes, List, NoMemory, Text};
+use crate::line::Line;
+use crate::print::{print_contents, print_items, print_number};
+use gd_api::Drive;
+use gd_item::{Item, Page, PageLink, Reply, Request};
+use gd_names::{Bytes, List, NoMemory, Path, Text};
 use gd_store::Store;
-use od_mirror::{Mirror, MirrorView, PullFault};
+use od_mirror::{Mirror, MirrorView, PullFault, Taken};
 use std::alloc::Global;
 
-/// The token of an enumeration that began and ended at this number.
-fn make_token(alloc: Global, number: u64) -> Result<Text, NoMemory>
-    ensures { IfOk result (λ token. token ≡ token_text number) }
+/// What a client has that took the one page of a fresh enumeration.
+fn view_of(alloc: Global, page: &Page) -> Result<MirrorView, NoMemory>
+    requires { IsWhole page.now }
+    ensures { IfOk result (λ view. view.items ≡ values_of (with_records [] page.now.items)) }
 {
-    let token = format!(in alloc; "t1.{number}.{number}")?;
-    Ok(Text::from_string(token))
-}
-
-/// The one page of a fresh enumeration: all living items, and the drive's number in its link.
-fn make_page(alloc: Global, store: &Store) -> Result<Page, NoMemory>
-    ensures { IfOk result (λ page. (log : List Effect) → Stands store.now log → page ≡ whole_page (inventory log)) }
-{
-    let number = store.number();
-    let (items, more) = store.changed_after(0, number, u64::MAX)?;
-    if more.is_some() {
-        // More records than a list can hold.
-        return Err(NoMemory);
-    }
-    let token = make_token(alloc, number)?;
-    Ok(Page {
-        items,
-        link: PageLink::Delta(token),
-    })
-}
-
-/// The items of a drive, pulled afresh.
-fn pull_view(alloc: Global, store: &Store) -> Result<MirrorView, NoMemory>
-    requires { IsDrive store.now }
-    ensures { IfOk result (λ view. (log : List Effect) → Stands store.now log → view.items ≡ records_of (inventory log)) }
-{
-    let page = make_page(alloc, store)?;
     let mut mirror = Mirror::start(alloc, List::new(alloc), None)?;
-    let _last = mirror.take_page(&page)?;
+    match mirror.take_page(page)? {
+        Taken::Last => {}
+        Taken::More => unreachable!(),
+    }
     match mirror.finish() {
         Ok(view) => Ok(view),
         Err(PullFault::BadPages(_)) => unreachable!(),
@@ -52,15 +36,77 @@ fn pull_view(alloc: Global, store: &Store) -> Result<MirrorView, NoMemory>
     }
 }
 
-/// A fresh pull by a client without a database, and what it prints.
-pub fn print_pull(alloc: Global, store: &Store, out: &mut Bytes) -> Result<(), NoMemory>
-    requires { IsDrive store.now }
-    ensures { OnOk result ((log : List Effect) → Stands store.now log → out.new ≡ out.old ++ pull_lines (inventory log)) }
+/// The items of such a page, each at its path, in order of path.
+fn paths_in(alloc: Global, page: &Page) -> Result<List<(Path, Item)>, NoMemory>
+    requires { IsWhole page.now }
+    ensures { IfOk result (λ paths. paths ≡ paths_of (values_of (with_records [] page.now.items))) }
 {
-    let view = pull_view(alloc, store)?;
+    let view = view_of(alloc, page)?;
     let paths = view.paths(alloc)?;
+    Ok(paths)
+}
+
+/// The page that another client gets for a fresh enumeration. None is want of memory.
+fn ask_page(drive: &mut Drive) -> Option<Page>
+    requires { IsDrive drive.old }
+    ensures whole { IfSome result (λ page. IsWhole page) }
+    ensures page { IfSome result (λ page. (log : List Step) → drives.Stands drive.old log
+        → (page.items ≡ whole_items (held_by log)) × drives.Stands drive.new (with_other log (Request.Delta None))) }
+    ensures size { drive.new.size ≡ drive.old.size }
+{
+    match drive.handle(&Request::Delta { token: None }) {
+        Reply::Page(page) => Some(page),
+        _ => None,
+    }
+}
+
+/// A fresh pull by another client, without a database, and what it prints.
+pub fn print_pull(alloc: Global, drive: &mut Drive, out: &mut Bytes) -> Result<(), NoMemory>
+    requires { IsDrive drive.old }
+    ensures { OnOk result (Plays drive.old drive.new out.old out.new Line.Pull) }
+{
+    let number = drive.store().number();
+    let Some(page) = ask_page(drive) else {
+        return Err(NoMemory);
+    };
+    let paths = paths_in(alloc, &page)?;
+    print_number(alloc, out, "pull", number)?;
+    print_items(alloc, out, paths.as_slice())
+}
+
+/// The one page of a fresh enumeration, from the drive's own store; its link is of no use.
+fn make_page(alloc: Global, store: &Store) -> Result<Page, NoMemory>
+    ensures items { IfOk result (λ page. (log : List Effect) → Stands store.now log → page.items ≡ whole_items (inventory log)) }
+    ensures last { IfOk result (λ page. taken_of page.link ≡ Taken.Last) }
+{
     let number = store.number();
-    print_position(alloc, out, number)?;
-    print_items(alloc, out, paths.as_slice())?;
-    Ok(())
+    let (items, more) = store.changed_after(0, number, u64::MAX)?;
+    if more.is_some() {
+        // More records than a list can hold.
+        return Err(NoMemory);
+    }
+    let token = Text::from_str(alloc, "")?;
+    Ok(Page {
+        items,
+        link: PageLink::Delta(token),
+    })
+}
+
+/// The drive's change number, and its tree with contents.
+fn print_store(alloc: Global, store: &Store, out: &mut Bytes) -> Result<(), NoMemory>
+    requires { (log : List Effect) × Stands store.now log }
+    ensures { OnOk result ((log : List Effect) → Stands store.now log → out.new ≡ out.old ++ drive_text (inventory log)) }
+{
+    let page = make_page(alloc, store)?;
+    let paths = paths_in(alloc, &page)?;
+    print_number(alloc, out, "drive", store.number())?;
+    print_contents(alloc, out, store, paths.as_slice())
+}
+
+/// What `drive` prints.
+pub fn print_drive(alloc: Global, drive: &Drive, out: &mut Bytes) -> Result<(), NoMemory>
+    requires { IsDrive drive.now }
+    ensures { OnOk result (Plays drive.now drive.now out.old out.new Line.Drive) }
+{
+    print_store(alloc, drive.store(), out)
 }

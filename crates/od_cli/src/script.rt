@@ -1,18 +1,14 @@
-ghost use Rattle.std.specs.Prelude.{◌≡◌, ℕ, [], ◌∷◌, ◌++◌, Some, None, Ok, Err, nat_eq, IfOk, OnOk, IsErrOf};
-ghost use Rattle.std.specs.List.{list_any};
+ghost use Rattle.std.specs.Prelude.{◌≡◌, ℕ, [], ◌∷◌, ◌++◌, Some, None, Ok, Err, IfOk, OnOk, IsErrOf};
 ghost use Rattle.std.specs.Option.{option_to_list};
 ghost use Rattle.std.specs.Str.{is_utf8};
-ghost use Rattle.od_cli.specs.Script.{command, first_word, folder_line, is_silent, line_of, put_parts, script};
+ghost use Rattle.od_cli.specs.Script.{command, first_word, is_silent, line_of, move_parts, other_line, other_parts, put_parts, script};
 
 use crate::fault::LineFault;
 use crate::line::Line;
 use crate::lines::cut_lines;
-use crate::words::{first_word, read_content, read_path};
+use crate::words::{first_word, read_content, read_last_path, read_path};
 use gd_names::{List, NoMemory};
 use std::alloc::Global;
-
-/// How many lines a script may have.
-const MOST_LINES: u64 = 1000;
 
 /// Why a text is no script.
 #[derive(Clone, Copy, Debug, PartialEq, Eq)]
@@ -39,17 +35,14 @@ pub fn read_script(alloc: Global, text: &[u8]) -> Result<List<Line>, ScriptFault
 {
     let texts = cut_lines(alloc, text)?;
     let mut lines = List::new(alloc);
-    let mut number: u64 = 1;
+    let mut number: u64 = 0;
     for line in texts.as_slice() {
-        if number > MOST_LINES {
-            return Err(ScriptFault::BadLine(number));
-        }
+        number += 1;
         match read_line(alloc, line.as_slice()) {
             Ok(found) => push_found(&mut lines, found)?,
             Err(LineFault::Bad) => return Err(ScriptFault::BadLine(number)),
             Err(LineFault::Memory) => return Err(ScriptFault::Memory),
         }
-        number += 1;
     }
     Ok(lines)
 }
@@ -93,50 +86,80 @@ fn is_silent(text: &[u8]) -> bool
 
 /// What a line does that is neither empty nor a comment.
 fn read_command(alloc: Global, text: &[u8]) -> Result<Line, LineFault>
-    ensures ok { IfOk result (λ line. command text.now ≡ Some (line ∷ [])) }
+    ensures ok { IfOk result (λ line. command text.now ≡ Some line) }
     ensures bad { IsErrOf result LineFault.Bad → command text.now ≡ None }
 {
     if text == b"pull".as_slice() {
         return Ok(Line::Pull);
     }
-    if let Some(parts) = text.strip_prefix(b"other put ") {
-        return read_put(alloc, parts);
+    if text == b"drive".as_slice() {
+        return Ok(Line::Drive);
     }
-    if let Some(word) = text.strip_prefix(b"other mkdir ") {
-        return read_folder(alloc, word);
+    let Some((word, rest)) = first_word(text) else {
+        return Err(LineFault::Bad);
+    };
+    if word == b"other".as_slice() {
+        return read_other(alloc, rest);
     }
     Err(LineFault::Bad)
 }
 
-/// A path and a content in quotes, with a space between them.
+/// What another client does.
+fn read_other(alloc: Global, text: &[u8]) -> Result<Line, LineFault>
+    ensures ok { IfOk result (λ line. other_parts (first_word text.now) ≡ Some line) }
+    ensures bad { IsErrOf result LineFault.Bad → other_parts (first_word text.now) ≡ None }
+{
+    let Some((word, rest)) = first_word(text) else {
+        return Err(LineFault::Bad);
+    };
+    read_other_line(alloc, word, rest)
+}
+
+fn read_other_line(alloc: Global, word: &[u8], rest: &[u8]) -> Result<Line, LineFault>
+    ensures ok { IfOk result (λ line. other_line word.now rest.now ≡ Some line) }
+    ensures bad { IsErrOf result LineFault.Bad → other_line word.now rest.now ≡ None }
+{
+    if word == b"put".as_slice() {
+        return read_put(alloc, rest);
+    }
+    if word == b"mkdir".as_slice() {
+        let path = read_last_path(alloc, rest)?;
+        return Ok(Line::OtherMakeFolder(path));
+    }
+    if word == b"move".as_slice() {
+        return read_move(alloc, rest);
+    }
+    if word == b"rm".as_slice() {
+        let path = read_last_path(alloc, rest)?;
+        return Ok(Line::OtherRemove(path));
+    }
+    Err(LineFault::Bad)
+}
+
+/// A path and a content, with a space between them.
 fn read_put(alloc: Global, text: &[u8]) -> Result<Line, LineFault>
-    ensures ok { IfOk result (λ line. put_parts (first_word text.now) ≡ Some (line ∷ [])) }
+    ensures ok { IfOk result (λ line. put_parts (first_word text.now) ≡ Some line) }
     ensures bad { IsErrOf result LineFault.Bad → put_parts (first_word text.now) ≡ None }
 {
-    let Some((word, quoted)) = first_word(text) else {
+    let Some((word, rest)) = first_word(text) else {
         return Err(LineFault::Bad);
     };
     let path = read_path(alloc, word)?;
-    let content = read_content(alloc, quoted)?;
+    let content = read_content(alloc, rest)?;
     Ok(Line::OtherPut(path, content))
 }
 
-/// A path alone.
-fn read_folder(alloc: Global, word: &[u8]) -> Result<Line, LineFault>
-    ensures ok { IfOk result (λ line. folder_line word.now ≡ Some (line ∷ [])) }
-    ensures bad { IsErrOf result LineFault.Bad → folder_line word.now ≡ None }
+/// Two paths, with a space between them.
+fn read_move(alloc: Global, text: &[u8]) -> Result<Line, LineFault>
+    ensures ok { IfOk result (λ line. move_parts (first_word text.now) ≡ Some line) }
+    ensures bad { IsErrOf result LineFault.Bad → move_parts (first_word text.now) ≡ None }
 {
-    if holds_space(word) {
+    let Some((word, rest)) = first_word(text) else {
         return Err(LineFault::Bad);
-    }
-    let path = read_path(alloc, word)?;
-    Ok(Line::OtherMakeFolder(path))
-}
-
-fn holds_space(word: &[u8]) -> bool
-    ensures { result ≡ list_any (λ b. nat_eq b 32) word.now }
-{
-    word.iter().any(|byte| *byte == b' ')
+    };
+    let from = read_path(alloc, word)?;
+    let to = read_last_path(alloc, rest)?;
+    Ok(Line::OtherMove(from, to))
 }
 
 #[cfg(test)]

@@ -30,7 +30,7 @@ fn replay_text(
 #[test]
 fn scripts(rt: HostRuntime) -> Result<(), Fail> {
     let alloc = rt.alloc();
-    let rows: [(&str, &str, ReplayStatus); 5] = [
+    let rows: [(&str, &str, ReplayStatus); 10] = [
         ("", "", ReplayStatus::Replayed),
         ("pull", "pull 1\n", ReplayStatus::Replayed),
         (
@@ -46,6 +46,31 @@ fn scripts(rt: HostRuntime) -> Result<(), Fail> {
         (
             "other mkdir /d\nother put /d/a.txt \"hi\"\npull\n",
             "pull 3\n/d/\n/d/a.txt 2 8f434346648f6b96df89dda901c5176b10a6d83961dd3c1ac88b59b2dc327aa4\n",
+            ReplayStatus::Replayed,
+        ),
+        (
+            "other mkdir /a\nother mkdir /a/f\nother mkdir /b\nother move /a /b/a\npull\n",
+            "pull 5\n/b/\n/b/a/\n/b/a/f/\n",
+            ReplayStatus::Replayed,
+        ),
+        (
+            "other mkdir /a\nother move /a /a/x\nother move /a /A\nother rm /a\npull\n",
+            "other 400 invalidRequest\npull 4\n",
+            ReplayStatus::Replayed,
+        ),
+        (
+            "other mkdir /d\nother move /d /x/d\nother rm /x\nother move /d /d\ndrive\n",
+            "other 404 itemNotFound\nother 404 itemNotFound\ndrive 3\n/d/\n",
+            ReplayStatus::Replayed,
+        ),
+        (
+            "other put /a \"one\"\nother put /A fill 65 61\nother put /b fill 4194305 00\nother put /c fill 64 7e\ndrive\n",
+            "other 413 invalidRequest\ndrive 4\n/a 65 635361c48bb9eab14198e76ea8ab7f1a41685d6ad62aa9146d301d4f17eb0ae0\n/c 64 \"~~~~~~~~~~~~~~~~~~~~~~~~~~~~~~~~~~~~~~~~~~~~~~~~~~~~~~~~~~~~~~~~\"\n",
+            ReplayStatus::Replayed,
+        ),
+        (
+            "other put /d \"1\"\nother mkdir /d\nother mkdir /d/e\nother put /d/e \"2\"\nother move /d /con\nother put /d fill 1 22\ndrive\npull\n",
+            "other 409 nameAlreadyExists\nother 400 invalidRequest\nother 400 invalidRequest\nother 400 invalidRequest\ndrive 3\n/d 1 8a331fdde7032f33a71e1b2e257d80166e348e00fcb17914f48bdb57a1c63007\npull 3\n/d 1 8a331fdde7032f33a71e1b2e257d80166e348e00fcb17914f48bdb57a1c63007\n",
             ReplayStatus::Replayed,
         ),
     ];

@@ -9,7 +9,8 @@ use Rattle.gd_item.specs.Sound.{IsItemMap, IsWithin}
 use Rattle.gd_item.specs.Trees.{in_order, at_path, placed, nodes_of, tree_of}
 use Rattle.gd_item.specs.declared.item.Item.{Item}
 use Rattle.gd_item.specs.declared.live.LiveItem.{LiveItem}
-use Rattle.od_mirror.specs.Drive.{records_of, placed_items}
+use Rattle.gd_item.specs.Records.{records_of}
+use Rattle.od_mirror.specs.Drive.{placed_items}
 use Rattle.od_mirror.specs.Pulled.{nodes, is_misplaced, is_bad, AllFit, paths_of}
 use Rattle.od_mirror.proofs.Mapped.{mapped, in-order-mapped}
 use Rattle.gd_item.proofs.Pairs.{AllPairs-tail}

@@ -1,4 +1,5 @@
 use super::*;
+use crate::line::Content;
 use std::test::Fail;
 
 /// How many lines a text spells.
@@ -16,6 +17,8 @@ fn scripts(rt: HostRuntime) {
         ("\n# café\npull\n\n", 1),
         ("other put /a.txt \"hi\"", 1),
         ("other put /a \"\"\nother mkdir /b\npull", 3),
+        ("other move /a /b/c\nother rm /b\ndrive", 3),
+        ("other put /a fill 1 00", 1),
     ];
     for (text, wanted) in rows {
         assert_eq!(rt; count(rt.alloc(), text.as_bytes()), Ok(wanted), "at {text}");
@@ -34,6 +37,18 @@ fn bad_lines(rt: HostRuntime) {
         ("other put /a  \"x\"", 1),
         ("other mkdir /a b", 1),
         ("sync", 1),
+        ("other move /a", 1),
+        ("other move /a /b c", 1),
+        ("other move / /b", 1),
+        ("other rm /", 1),
+        ("other copy /a /b", 1),
+        ("other put /a fill 0 00", 1),
+        ("other put /a fill 01 00", 1),
+        ("other put /a fill 70000001 00", 1),
+        ("other put /a fill 18446744073709551617 00", 1),
+        ("other put /a fill 1 0", 1),
+        ("other put /a fill 1 0g", 1),
+        ("drive ", 1),
         ("pull ", 1),
         ("pull\r\n", 1),
         ("pull\n# sync\nsync\nsync", 3),
@@ -52,38 +67,14 @@ fn bad_lines(rt: HostRuntime) {
 #[test]
 fn puts(rt: HostRuntime) -> Result<(), Fail> {
     let alloc = rt.alloc();
-    let lines = read_script(alloc, b"other put /a%20b.txt \"hi there\"")?;
-    let [Line::OtherPut(path, content)] = lines.as_slice() else {
-        assert!(rt; false, "one put");
+    let lines = read_script(alloc, b"other put /a%20b.txt \"hi there\"\nother put /c fill 70000000 aF")?;
+    let [Line::OtherPut(path, Content::Text(text)), Line::OtherPut(_, Content::Fill(count, byte))] = lines.as_slice() else {
+        assert!(rt; false, "two puts");
         return Ok(());
     };
     assert_eq!(rt; path.write(alloc)?.as_str(), "/a%20b.txt");
-    assert_eq!(rt; content.as_slice(), b"hi there".as_slice());
-    Ok(())
-}
-
-#[test]
-fn most_lines(rt: HostRuntime) -> Result<(), Fail> {
-    let alloc = rt.alloc();
-    for (lines, wanted) in [(1000, Ok(1000)), (1001, Err(ScriptFault::BadLine(1001)))] {
-        let mut text = Vec::new(alloc);
-        for _ in 0..lines {
-            text.extend_from_slice(b"pull\n")?;
-        }
-        assert_eq!(rt; count(alloc, &text), wanted);
-    }
-    Ok(())
-}
-
-#[test]
-fn longest_contents(rt: HostRuntime) -> Result<(), Fail> {
-    let alloc = rt.alloc();
-    for (length, wanted) in [(1000, Ok(1)), (1001, Err(ScriptFault::BadLine(1)))] {
-        let content = vec![in alloc; b'x'; length]?;
-        let mut text = Vec::from_slice(alloc, b"other put /a \"")?;
-        text.extend_from_slice(&content)?;
-        text.extend_from_slice(b"\"")?;
-        assert_eq!(rt; count(alloc, &text), wanted);
-    }
+    assert_eq!(rt; text.as_slice(), b"hi there".as_slice());
+    assert_eq!(rt; *count, 70_000_000);
+    assert_eq!(rt; *byte, 0xAF);
     Ok(())
 }

@@ -3,4 +3,4 @@ use Rattle.od_cli.proofs.Playing.{Playing}
 use Rattle.od_cli.proofs.play.play.Given as goal
 
 abbrev pub invariant-loop-line : goal.invariant-loop-line
-invariant-loop-line l = Playing l.store l.out (drop l.line-index l.lines) l.lines
+invariant-loop-line l = Playing l.drive l.out (drop l.line-index l.lines) l.lines

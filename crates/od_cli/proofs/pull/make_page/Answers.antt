@@ -1,10 +1,10 @@
 use Rattle.std.proofs.Common.{sym, ◌∙◌}
-use Rattle.od_cli.proofs.Pulls.{page-is, not-some}
+use Rattle.od_cli.proofs.Pulls.{items-are, not-some}
 use Rattle.od_cli.proofs.pull.make_page.Goals as goal
 
-pub returns : goal.returns
-returns c =
+pub returns-clause-items : goal.returns-clause-items
+returns-clause-items c =
     λ log stands.
     let found = c.in_ok-items.ensures log stands in
-    page-is c.in_ok-items.items c.in_ok-items.more c.number-number.result 18446744073709551615 c.in_ok-token.token log (c.number-number.ensures log stands) found.0 found.1
-    (not-some c.in_ok-items.more (sym c.is_some.ensures ∙ c.if-is_some.false)) c.in_ok-token.ensures
+    items-are c.in_ok-items.items c.in_ok-items.more c.number-number.result 18446744073709551615 log (c.number-number.ensures log stands) found.0 found.1
+    (not-some c.in_ok-items.more (sym c.is_some.ensures ∙ c.if-is_some.false))

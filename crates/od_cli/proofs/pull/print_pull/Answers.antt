@@ -1,11 +1,15 @@
-use Rattle.std.proofs.Common.{◌++◌, ap, ◌∙◌}
+use Rattle.std.proofs.Common.{◌≡◌, ◌++◌}
 use Rattle.std.specs.List.{flat_map}
+use Rattle.od_cli.specs.Plays.{Plays}
 use Rattle.od_cli.specs.Pulled.{item_line}
-use Rattle.od_cli.proofs.Prints.{pull-printed}
+use Rattle.od_cli.specs.declared.line.Line.TheVariants.{Pull}
+use Rattle.od_cli.proofs.Asking.{ok-gives}
+use Rattle.od_cli.proofs.Prints.{pull-plays}
 use Rattle.od_cli.proofs.pull.print_pull.Goals as goal
 
 pub returns : goal.returns
 returns c =
-    λ log stands.
-    pull-printed c.args.store.now log c.in_ok-view.view.items c.in_ok-paths.paths c.number-number.result c.args.out.now c.print_position.new.out c.print_items.new.out stands (c.in_ok-view.ensures log stands) c.in_ok-paths.ensures
-    (c.number-number.ensures log stands) c.in_ok-print_position.ensures (c.in_ok-print_items.ensures ∙ ap (λ items. c.print_position.new.out ++ flat_map item_line items) c.as_slice.ensures)
+    ok-gives c.print_items.result (c.print_items.new.out ≡ c.print_number.new.out ++ flat_map item_line c.as_slice.result.now)
+    (Plays c.args.drive.now c.ask_page.new.drive c.args.out.now c.print_items.new.out Pull) c.print_items.ensures
+    (λ printed. pull-plays c.args.drive.now c.ask_page.new.drive c.store.result.now c.args.out.now c.print_number.new.out c.print_items.new.out c.in-Some.page.items c.in_ok-paths.paths c.as_slice.result.now c.number-number.result
+    c.store.ensures c.number-number.ensures c.in-Some.ensures.page c.ask_page.ensures.size c.in_ok-paths.ensures c.as_slice.ensures c.in_ok-print_number.ensures printed)
