@@ -1,5 +1,5 @@
 -- The feed rises in change number, and what of it is past a number is the feed past that number.
-use Rattle.std.proofs.Common.{◌≡◌, ℕ, ◌+◌, ◌-◌, ◌<◌, ◌≤◌, zero, suc, Bool, true, false, ◌&&◌, cond, nat_eq, nat_lt, List, [], ◌∷◌, ◌++◌, length, take, drop, filter, slice_index, Option, Some, None, refl, sym, ap, ◌∙◌, subst, arith}
+use Rattle.std.proofs.Common.{◌≡◌, ℕ, ◌-◌, ◌<◌, ◌≤◌, zero, suc, Bool, true, false, ◌&&◌, cond, nat_eq, nat_lt, List, [], ◌∷◌, ◌++◌, length, take, drop, filter, slice_index, Some, None, refl, sym, ap, ◌∙◌, subst, arith}
 use Rattle.std.specs.Cmp.{ranked}
 use Rattle.std.specs.BTreeMap.{insert_entry}
 use Rattle.std.specs.List.{All, AllPairs}
@@ -52,6 +52,7 @@ all-put P (first ∷ entries) number item all p =
   where
     Q : ℕ × Item → Type 0
     Q e = P e.0
+
     by : (o : Ordering) → All (λ (e : ℕ × Item). P e.0) (put entries number item)
         → All (λ (e : ℕ × Item). P e.0) (match_ordering o ((number, item) ∷ first ∷ entries) ((first.0, item) ∷ entries) (first ∷ put entries number item))
     by Less rest = All-cons (λ (e : ℕ × Item). P e.0) (number, item) (first ∷ entries) p all

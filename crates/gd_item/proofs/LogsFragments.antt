@@ -1,6 +1,6 @@
 -- Fragments of large files: a refusal looks at the lengths of the byte lists alone.
-use Rattle.std.proofs.Common.{◌≡◌, ℕ, ◌+◌, ◌-◌, ◌%◌, Bool, true, false, not, ◌&&◌, ◌||◌, cond, nat_eq, nat_lt, nat_le, List, [], ◌∷◌, ◌++◌, length, codes, is_some, is_none, Option, Some, None, refl, sym, ap, ◌∙◌, subst, arith}
-use Rattle.std.proofs.lemmas.List.{length-append, append_assoc}
+use Rattle.std.proofs.Common.{◌≡◌, ℕ, ◌+◌, ◌-◌, ◌%◌, false, not, ◌&&◌, ◌||◌, cond, nat_eq, nat_lt, nat_le, List, [], ◌∷◌, ◌++◌, length, codes, is_some, is_none, Option, Some, None, refl, ap, ◌∙◌, arith}
+use Rattle.std.proofs.lemmas.List.{length-append}
 use Rattle.gd_names.specs.Causes.{first_cause}
 use Rattle.gd_names.specs.Names.{name_fault}
 use Rattle.gd_names.specs.declared.conflict.Conflict.{Conflict}
@@ -8,12 +8,12 @@ use Rattle.gd_names.specs.declared.conflict.Conflict.TheVariants.{Fail, Replace}
 use Rattle.gd_item.specs.Answers.{answer, answer_of, answer_unless, reply_to, refused}
 use Rattle.gd_item.specs.DriveLogs.{other, put_at, opened_log, first_part, second_part, third_part, begun_log, two_parts_log, sent_log, status_of_reply}
 use Rattle.gd_item.specs.Ids.{item_id}
-use Rattle.gd_item.specs.Inventory.{Inventory, new_drive, live_at}
+use Rattle.gd_item.specs.Inventory.{Inventory, new_drive}
 use Rattle.gd_item.specs.Nodes.{is_folder}
 use Rattle.gd_item.specs.Refusals.{is_there, settled_in, is_refuse, is_met, is_too_long, settled_path, is_over_quota, made_items, live_named, put_refusal}
 use Rattle.gd_item.specs.Refused.{Refusal, refuse, refusal, or_else, by_session, by_store, at_target, last_refusal, whole_refusal}
 use Rattle.gd_item.specs.Sessions.{State, Session, new_state, held, held_bytes, is_other_total, session_fragment_fault, fragment_fault, session_at}
-use Rattle.gd_item.specs.Steps.{after_request, is_accepted, after_step, after_steps, state_of}
+use Rattle.gd_item.specs.Steps.{after_request, after_step, state_of}
 use Rattle.gd_item.specs.Targets.{place_of}
 use Rattle.gd_item.specs.Trees.{nodes_of}
 use Rattle.gd_item.specs.declared.condition.Condition.{Condition}
@@ -24,14 +24,10 @@ use Rattle.gd_item.specs.declared.fault.SessionFault.TheVariants as session_faul
 use Rattle.gd_item.specs.declared.fault.StoreFault.{StoreFault}
 use Rattle.gd_item.specs.declared.fault.StoreFault.TheVariants.{NotFound, NotFolder, BadName, Modified, NameTaken, PathTooLong, Quota}
 use Rattle.gd_item.specs.declared.live.Place.TheVariants.{Under}
-use Rattle.gd_item.specs.declared.reply.Reply.{Reply}
 use Rattle.gd_item.specs.declared.reply.Reply.TheVariants as reply
 use Rattle.gd_item.specs.declared.request.Address.TheVariants.{ByPath}
 use Rattle.gd_item.specs.declared.request.Request.{Request}
 use Rattle.gd_item.specs.declared.request.Request.TheVariants.{Fragment, SessionStatus}
-use Rattle.gd_item.specs.declared.step.Step.{Step}
-use Rattle.gd_item.specs.declared.step.Step.TheVariants.{Ask}
-use Rattle.gd_item.specs.declared.step.Who.{Who}
 use Rattle.gd_item.specs.declared.step.Who.TheVariants.{Own, Other}
 
 -- why a fragment is refused, from its length, how much came before, how much all sessions hold and the drive keeps

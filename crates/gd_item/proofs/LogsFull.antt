@@ -3,30 +3,24 @@ use Rattle.std.proofs.Common.{◌≡◌, ℕ, ◌+◌, ◌-◌, ◌*◌, ◌^◌
 use Rattle.std.proofs.lemmas.Bool.{ltb-true}
 use Rattle.gd_names.specs.Causes.{first_cause}
 use Rattle.gd_names.specs.Names.{name_fault}
-use Rattle.gd_names.specs.declared.conflict.Conflict.{Conflict}
 use Rattle.gd_names.specs.declared.conflict.Conflict.TheVariants.{Replace}
-use Rattle.gd_item.specs.Answers.{answer, answer_of, refused}
+use Rattle.gd_item.specs.Answers.{answer_of, refused}
 use Rattle.gd_item.specs.DriveLogs.{other, put_at, putting_log}
-use Rattle.gd_item.specs.Ids.{item_id}
-use Rattle.gd_item.specs.Inventory.{Inventory, new_drive, inventory, after, PutNew, PutOver}
+use Rattle.gd_item.specs.Inventory.{Inventory, new_drive, inventory, after, PutOver}
 use Rattle.gd_item.specs.Nodes.{is_folder}
-use Rattle.gd_item.specs.Refusals.{is_there, settled_in, is_refuse, is_met, is_too_long, settled_path, is_over_quota, made_items, live_named, put_refusal, put_effect}
+use Rattle.gd_item.specs.Refusals.{is_there, settled_in, is_refuse, is_met, is_too_long, settled_path, live_named, put_refusal, put_effect}
 use Rattle.gd_item.specs.Refused.{Refusal, refuse, refusal, by_store, at_target}
 use Rattle.gd_item.specs.Sessions.{State, Session, new_state, held, held_bytes}
-use Rattle.gd_item.specs.Steps.{effects_at, effects_of, after_request, after_step, after_steps, state_of, number_of}
+use Rattle.gd_item.specs.Steps.{effects_at, effects_of, after_step, after_steps, state_of, number_of}
 use Rattle.gd_item.specs.Targets.{place_of}
 use Rattle.gd_item.specs.Trees.{nodes_of}
-use Rattle.gd_item.specs.declared.condition.Condition.{Condition}
 use Rattle.gd_item.specs.declared.condition.Condition.TheVariants.{Free}
 use Rattle.gd_item.specs.declared.fault.ErrorCode.TheVariants.{InvalidRequest, QuotaLimitReached}
 use Rattle.gd_item.specs.declared.fault.StoreFault.{StoreFault}
 use Rattle.gd_item.specs.declared.fault.StoreFault.TheVariants.{NotFound, NotFolder, BadName, Modified, NameTaken, PathTooLong, Quota}
-use Rattle.gd_item.specs.declared.live.LiveItem.{LiveItem}
 use Rattle.gd_item.specs.declared.live.Version.{Version}
 use Rattle.gd_item.specs.declared.request.Address.TheVariants.{ByPath}
 use Rattle.gd_item.specs.declared.request.Request.{Request}
-use Rattle.gd_item.specs.declared.step.Step.{Step}
-use Rattle.gd_item.specs.declared.step.Who.TheVariants.{Other}
 use Rattle.gd_item.proofs.Effects.{inventory-snoc}
 use Rattle.gd_item.proofs.LogsFragments.{after-accepted, answer-refused}
 

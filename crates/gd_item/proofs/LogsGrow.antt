@@ -1,5 +1,5 @@
 -- What more steps do to what a drive has come to.
-use Rattle.std.proofs.Common.{◌≡◌, ℕ, ◌+◌, ◌-◌, ◌^◌, ◌≤◌, min, max, Bool, true, false, cond, List, [], ◌∷◌, ◌++◌, length, refl, sym, ap, ◌∙◌, subst, arith}
+use Rattle.std.proofs.Common.{◌≡◌, ◌-◌, ◌^◌, ◌≤◌, Bool, true, false, cond, List, [], ◌∷◌, ◌++◌, length, refl, sym, ap, ◌∙◌, subst, arith}
 use Rattle.std.proofs.lemmas.List.{append-nil, append_assoc, length-append}
 use Rattle.gd_item.specs.Inventory.{Effect, Inventory, new_drive, after, after_all, inventory}
 use Rattle.gd_item.specs.Sessions.{State, new_state, held}
@@ -65,8 +65,10 @@ later-step state (Event event) = later-event state event
 
 later-then : (a b c : State) → IsLater a b → IsLater b c → IsLater a c
 later-then a b c first second = record {
-  effects = (first.effects.0 ++ second.effects.0,
-      second.effects.1 ∙ ap (λ es. es ++ second.effects.0) first.effects.1 ∙ append_assoc a.effects first.effects.0 second.effects.0);
+  effects = (
+    first.effects.0 ++ second.effects.0,
+    second.effects.1 ∙ ap (λ es. es ++ second.effects.0) first.effects.1 ∙ append_assoc a.effects first.effects.0 second.effects.0,
+  );
   epoch = λ low. let ab = first.epoch low in let bc = second.epoch ab.1 in (omega (arith, ab.0, bc.0), bc.1);
   floor = omega (arith, first.floor, second.floor);
 }

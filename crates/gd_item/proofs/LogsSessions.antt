@@ -1,20 +1,19 @@
 -- A session that was completed is gone, and no later one has its number.
-use Rattle.std.proofs.Common.{◌≡◌, ◌≢◌, ℕ, ◌+◌, ◌<◌, ◌≤◌, Bool, true, false, ◌&&◌, not, cond, nat_eq, nat_lt, List, [], ◌∷◌, ◌++◌, length, map, filter, is_none, Option, Some, None, refl, sym, ap, ◌∙◌, subst, arith}
+use Rattle.std.proofs.Common.{◌≡◌, ◌≢◌, ℕ, ◌+◌, ◌<◌, ◌≤◌, Bool, true, false, ◌&&◌, not, cond, nat_eq, nat_lt, List, [], ◌∷◌, ◌++◌, length, is_none, Option, Some, None, refl, sym, ap, ◌∙◌, subst, arith}
 use Rattle.std.specs.List.{All}
 use Rattle.std.proofs.lemmas.Bool.{eqb-true, ltb-true, ltb-false, ne_eqb, eq-eqb, and_parts}
 use Rattle.std.proofs.lemmas.List.{length_push}
-use Rattle.std.proofs.lemmas.List.Elements.{All-nil, All-cons, All-head, All-tail, All-weaker, All-push, All-filter, All-map, filter_passes}
+use Rattle.std.proofs.lemmas.List.Elements.{All-nil, All-cons, All-head, All-tail, All-weaker, All-push, All-filter, filter_passes}
 use Rattle.gd_names.specs.declared.conflict.Conflict.{Conflict}
 use Rattle.gd_item.specs.Completions.{is_last_of, completes, completions_after, completions}
-use Rattle.gd_item.specs.Refused.{refusal, or_else, by_session, by_store, last_refusal}
+use Rattle.gd_item.specs.Refused.{or_else, by_session, by_store, last_refusal}
 use Rattle.gd_item.specs.Sessions.{State, Session, new_state, held, session_at, without_session, with_fragment, fragment_fault}
-use Rattle.gd_item.specs.Steps.{opened, sessions_of, openers_of, after_request, after_event, is_accepted, after_step, after_steps}
+use Rattle.gd_item.specs.Steps.{opened, sessions_of, openers_of, after_request, is_accepted, after_step}
 use Rattle.gd_item.specs.Targets.{place_of}
 use Rattle.gd_item.specs.declared.condition.Condition.{Condition}
 use Rattle.gd_item.specs.declared.live.Place.{Place}
 use Rattle.gd_item.specs.declared.request.Request.{Request}
 use Rattle.gd_item.specs.declared.request.Request.TheVariants.{Get, Children, MakeFolder, Put, Patch, Delete, Content, Download, OpenSession, Fragment, SessionStatus, CancelSession, Delta}
-use Rattle.gd_item.specs.declared.step.DriveEvent.{DriveEvent}
 use Rattle.gd_item.specs.declared.step.DriveEvent.TheVariants.{Expire, Restore, EndSession}
 use Rattle.gd_item.specs.declared.step.Step.{Step}
 use Rattle.gd_item.specs.declared.step.Step.TheVariants.{Ask, Event}

@@ -1,6 +1,5 @@
 -- Some short logs of drives, and what of a reply tells it from others.
 use Rattle.std.specs.Prelude.{ℕ, true, false, List, [], ◌∷◌, ◌++◌, map, replicate, codes, Option, Some, None}
-use Rattle.gd_names.specs.declared.conflict.Conflict.{Conflict}
 use Rattle.gd_names.specs.declared.conflict.Conflict.TheVariants.{Fail, Replace}
 use Rattle.gd_item.specs.Ids.{item_id}
 use Rattle.gd_item.specs.declared.condition.Condition.{Condition}

@@ -19,23 +19,23 @@ mod token;
 mod tree_laws;
 
 pub use condition::{Condition, matches};
+pub use digest::{Digest, digest_of};
 pub use drive_instances::{
     case_changed, children_listed, expired_token_gone, folder_deleted, folder_moved,
     folder_renamed_and_removed, moved_between_pages, moves_refused, pages_full, puts_answered,
     removed_between_pages, restored_token_gone, steps_unlucky, tokens_read, tokens_served,
 };
-pub use digest::{Digest, digest_of};
 pub use fault::{ErrorCode, SessionFault, StoreFault};
 pub use id::ItemId;
 pub use instances::{file_replaced, folder_refusals, folder_removed, taken_name_put};
 pub use item::{Item, Kind, Tag, ctag_of, etag_of};
 pub use laws::{ids_read_back, tokens_read_back};
+pub use live::{LiveItem, Place, Tombstone, Version};
 pub use log_laws::{
     a_session_completes_once, a_version_is_accepted, accepted_versions_stay,
     kept_bytes_are_those_of_versions, numbers_never_fall, pages_give_each_change_once,
     session_bytes_are_those_received,
 };
-pub use live::{LiveItem, Place, Tombstone, Version};
 pub use reply::{Page, PageLink, Reply, Resync};
 pub use request::{Address, Request, RequestKind};
 pub use session_instances::{

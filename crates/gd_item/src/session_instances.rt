@@ -1,5 +1,5 @@
 //! Instances of upload sessions, each the contract of a function that does nothing.
-ghost use Rattle.std.specs.Prelude.{◌≡◌, ℕ, true, false, List, [], ◌∷◌, ◌++◌, length, codes, Some, None};
+ghost use Rattle.std.specs.Prelude.{◌≡◌, ℕ, true, false, List, [], ◌∷◌, ◌++◌, length, codes, Some};
 ghost use Rattle.gd_item.specs.Answers.{answer_of, refused};
 ghost use Rattle.gd_item.specs.DriveLogs.{put_at, send_new, other, opened_log, overtaken_log, meddled_log, putting_log, ten_bytes, first_part, second_part, third_part, begun_log, two_parts_log, sent_log, status_of_reply};
 ghost use Rattle.gd_item.specs.Refused.{refuse};
