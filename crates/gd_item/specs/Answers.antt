@@ -1,13 +1,13 @@
 -- What a drive answers: its refusal, or the reply to the request with the items as they are after it. An item of a
 -- reply that is no page of the feed has the path of its folder.
-use Rattle.std.specs.Prelude.{ℕ, ◌+◌, Bool, true, false, cond, List, [], ◌∷◌, ◌++◌, length, take, nat_eq, Option, Some, None}
+use Rattle.std.specs.Prelude.{ℕ, ◌+◌, Bool, true, false, cond, List, [], ◌∷◌, length, take, Option, Some, None}
 use Rattle.gd_item.specs.Children.{children_past, first_children, has_more_children}
 use Rattle.gd_item.specs.Ids.{item_id}
 use Rattle.gd_item.specs.Inventory.{Effect, Inventory, live_at}
 use Rattle.gd_item.specs.Pages.{Asked, Past, Latest, Bad, Lost, asked, page_past, latest_page}
 use Rattle.gd_item.specs.Records.{record_at}
 use Rattle.gd_item.specs.Refusals.{touched, is_made}
-use Rattle.gd_item.specs.Refused.{Refusal, refuse, refusal}
+use Rattle.gd_item.specs.Refused.{Refusal, refusal}
 use Rattle.gd_item.specs.Sessions.{State, Session, held, session_at}
 use Rattle.gd_item.specs.Steps.{after_request, effects_of, state_of}
 use Rattle.gd_item.specs.Targets.{target_of}

@@ -1,6 +1,6 @@
 -- Why a drive refuses to move or to remove an item, and what it does where it does not refuse. An item is moved to a
 -- new folder, a new name or both. With a folder all that is below it is removed, the deepest first.
-use Rattle.std.specs.Prelude.{ℕ, zero, suc, ◌+◌, ◌-◌, ◌^◌, Bool, true, false, not, ◌&&◌, ◌||◌, cond, List, [], ◌∷◌, ◌++◌, length, map, filter, is_some, nat_eq, nat_lt, Option, Some, None, unwrap_or}
+use Rattle.std.specs.Prelude.{ℕ, zero, suc, ◌+◌, ◌-◌, ◌^◌, Bool, false, not, ◌&&◌, ◌||◌, List, [], ◌∷◌, ◌++◌, length, map, filter, is_some, nat_eq, nat_lt, Option, Some, None, unwrap_or}
 use Rattle.std.specs.List.{list_any}
 use Rattle.gd_names.specs.Causes.{first_cause}
 use Rattle.gd_names.specs.Caseless.{equal_caseless}

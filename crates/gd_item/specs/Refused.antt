@@ -1,12 +1,11 @@
 -- Why a drive refuses a request: the first cause that holds, in the order of the kinds of requests. A drive takes at
 -- most 1,000 sessions at a time, files put at once of at most 4,194,304 bytes, and kept bytes, those of its sessions
 -- among them, of at most 536,870,912.
-use Rattle.std.specs.Prelude.{ℕ, ◌+◌, ◌-◌, ◌^◌, Bool, true, false, not, ◌&&◌, ◌||◌, cond, List, [], ◌∷◌, ◌++◌, length, is_none, nat_eq, nat_lt, nat_le, Option, Some, None}
+use Rattle.std.specs.Prelude.{ℕ, ◌+◌, ◌-◌, ◌^◌, Bool, true, false, not, ◌&&◌, ◌||◌, cond, List, [], ◌++◌, length, is_none, nat_eq, nat_lt, nat_le, Option, Some, None}
 use Rattle.std.specs.Cmp.Lexicographic.{pointwise}
 use Rattle.std.specs.Option.{option_map}
 use Rattle.gd_names.specs.declared.conflict.Conflict.{Conflict}
 use Rattle.gd_item.specs.Faults.{status_of, code_of, session_status_of, session_code_of}
-use Rattle.gd_item.specs.Inventory.{Inventory}
 use Rattle.gd_item.specs.Moves.{patch_refusal, remove_refusal}
 use Rattle.gd_item.specs.Pages.{asked, is_bad}
 use Rattle.gd_item.specs.Records.{record_at}
@@ -22,7 +21,6 @@ use Rattle.gd_item.specs.declared.fault.SessionFault.TheVariants as session_faul
 use Rattle.gd_item.specs.declared.fault.StoreFault.{StoreFault}
 use Rattle.gd_item.specs.declared.fault.StoreFault.TheVariants.{NotFound, Quota}
 use Rattle.gd_item.specs.declared.id.ItemId.{ItemId}
-use Rattle.gd_item.specs.declared.live.Place.{Place}
 use Rattle.gd_item.specs.declared.request.Address.{Address}
 use Rattle.gd_item.specs.declared.request.Request.{Request}
 use Rattle.gd_item.specs.declared.request.Request.TheVariants.{Get, Children, MakeFolder, Put, Patch, Delete, Content, Download, OpenSession, Fragment, SessionStatus, CancelSession, Delta}

@@ -1,6 +1,6 @@
 -- Upload sessions: a file that comes in fragments, in order, each but the last a multiple of 327,680 bytes
 -- (createUploadSession of Microsoft Graph). What a drive has come to is the effects of its accepted requests, the
--- sessions that live, whose each opened one was, its epoch and its floor.
+-- sessions that live, who opened each session, its epoch and its floor.
 use Rattle.std.specs.Prelude.{ℕ, ◌+◌, ◌-◌, ◌%◌, Bool, false, not, ◌&&◌, ◌||◌, cond, List, [], ◌∷◌, ◌++◌, length, find, filter, map, sum_by, nat_eq, nat_lt, nat_le, Option, Some, None}
 use Rattle.gd_names.specs.Causes.{first_cause}
 use Rattle.gd_names.specs.declared.conflict.Conflict.{Conflict}

@@ -5,9 +5,8 @@ use Rattle.std.specs.Option.{option_map}
 use Rattle.gd_item.specs.Ids.{item_id}
 use Rattle.gd_item.specs.Inventory.{Inventory}
 use Rattle.gd_item.specs.Nodes.{number_at, child_at}
-use Rattle.gd_item.specs.Places.{names_above, last_name, folder_above}
+use Rattle.gd_item.specs.Places.{last_name, folder_above}
 use Rattle.gd_item.specs.Trees.{nodes_of}
-use Rattle.gd_item.specs.declared.id.ItemId.{ItemId}
 use Rattle.gd_item.specs.declared.live.Place.{Place}
 use Rattle.gd_item.specs.declared.live.Place.TheVariants.{Over, Under}
 use Rattle.gd_item.specs.declared.request.Address.{Address}

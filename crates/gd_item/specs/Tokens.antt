@@ -1,6 +1,6 @@
 -- The token of a feed: `t`, the epoch, the position and the start, in decimal without leading zeros and with dots
 -- between them.
-use Rattle.std.specs.Prelude.{ℕ, ◌+◌, ◌-◌, ◌*◌, ◌^◌, Bool, ◌&&◌, cond, List, [], ◌∷◌, ◌++◌, codes, nat_eq, nat_lt, Option, Some, None}
+use Rattle.std.specs.Prelude.{ℕ, ◌+◌, ◌-◌, ◌*◌, ◌^◌, ◌&&◌, cond, List, [], ◌∷◌, ◌++◌, codes, nat_eq, nat_lt, Option, Some, None}
 use Rattle.std.specs.Cmp.Lexicographic.{pointwise}
 use Rattle.std.specs.Fmt.{decimal}
 use Rattle.gd_item.specs.declared.token.Token.{Token}

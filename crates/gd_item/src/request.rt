@@ -107,18 +107,32 @@ impl Clone for Request {
                 at: at.clone()?,
                 after: after.clone()?,
             }),
-            Request::MakeFolder { at, name, behaviour } => Ok(Request::MakeFolder {
+            Request::MakeFolder {
+                at,
+                name,
+                behaviour,
+            } => Ok(Request::MakeFolder {
                 at: at.clone()?,
                 name: name.clone()?,
                 behaviour: *behaviour,
             }),
-            Request::Put { at, bytes, behaviour, condition } => Ok(Request::Put {
+            Request::Put {
+                at,
+                bytes,
+                behaviour,
+                condition,
+            } => Ok(Request::Put {
                 at: at.clone()?,
                 bytes: bytes.clone()?,
                 behaviour: *behaviour,
                 condition: condition.clone()?,
             }),
-            Request::Patch { at, name, parent, condition } => Ok(Request::Patch {
+            Request::Patch {
+                at,
+                name,
+                parent,
+                condition,
+            } => Ok(Request::Patch {
                 at: at.clone()?,
                 name: name.clone()?,
                 parent: *parent,
@@ -129,14 +143,28 @@ impl Clone for Request {
                 condition: condition.clone()?,
             }),
             Request::Content { at } => Ok(Request::Content { at: at.clone()? }),
-            Request::Download { id, version } => Ok(Request::Download { id: *id, version: *version }),
-            Request::OpenSession { at, name, behaviour, condition } => Ok(Request::OpenSession {
+            Request::Download { id, version } => Ok(Request::Download {
+                id: *id,
+                version: *version,
+            }),
+            Request::OpenSession {
+                at,
+                name,
+                behaviour,
+                condition,
+            } => Ok(Request::OpenSession {
                 at: at.clone()?,
                 name: name.clone()?,
                 behaviour: *behaviour,
                 condition: condition.clone()?,
             }),
-            Request::Fragment { session, first, last, total, bytes } => Ok(Request::Fragment {
+            Request::Fragment {
+                session,
+                first,
+                last,
+                total,
+                bytes,
+            } => Ok(Request::Fragment {
                 session: *session,
                 first: *first,
                 last: *last,
@@ -145,7 +173,9 @@ impl Clone for Request {
             }),
             Request::SessionStatus { session } => Ok(Request::SessionStatus { session: *session }),
             Request::CancelSession { session } => Ok(Request::CancelSession { session: *session }),
-            Request::Delta { token } => Ok(Request::Delta { token: token.clone()? }),
+            Request::Delta { token } => Ok(Request::Delta {
+                token: token.clone()?,
+            }),
         }
     }
 }

@@ -53,9 +53,19 @@ impl Clone for Step {
 
     fn clone(&self) -> Result<Step, AllocError> {
         match self {
-            Step::Ask { who, request, served, heard } => {
+            Step::Ask {
+                who,
+                request,
+                served,
+                heard,
+            } => {
                 let request = request.clone()?;
-                Ok(Step::Ask { who: *who, request, served: *served, heard: *heard })
+                Ok(Step::Ask {
+                    who: *who,
+                    request,
+                    served: *served,
+                    heard: *heard,
+                })
             }
             Step::Event(event) => Ok(Step::Event(*event)),
         }
