@@ -1,8 +1,12 @@
+pub mod Allowed
+pub mod Changes
 pub mod Climbs
 pub mod Counts
-pub mod Changes
-pub mod Overwriting
-pub mod Allowed
-pub mod Steps
+pub mod Feeds
 pub mod Files
+pub mod Insides
+pub mod Listing
+pub mod Overwriting
+pub mod Removals
 pub mod Sounds
+pub mod Steps
