@@ -10,6 +10,14 @@ after_all-snoc held (first ∷ effects) effect = after_all-snoc (after held firs
 pub inventory-snoc : (effects : List Effect) (effect : Effect) → inventory (effects ++ effect ∷ []) ≡ after (inventory effects) effect
 inventory-snoc effects effect = after_all-snoc new_drive effects effect
 
+after_all-append : (held : Inventory) (effects more : List Effect) → after_all held (effects ++ more) ≡ after_all (after_all held effects) more
+after_all-append held [] more = refl
+after_all-append held (first ∷ effects) more = after_all-append (after held first) effects more
+
+-- more effects are more steps
+pub inventory-append : (effects more : List Effect) → inventory (effects ++ more) ≡ after_all (inventory effects) more
+inventory-append effects more = after_all-append new_drive effects more
+
 -- each effect raises the change number by one
 pub number-after : (held : Inventory) (effect : Effect) → (after held effect).number ≡ held.number + 1
 number-after held (MadeFolder parent name) = refl

@@ -2,6 +2,9 @@ pub mod Adding
 pub mod Climbs
 pub mod Effects
 pub mod Hex
+pub mod Moving
 pub mod Pairs
 pub mod Quotes
+pub mod Reaching
+pub mod Removing
 pub mod Soundness

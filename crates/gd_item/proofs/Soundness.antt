@@ -31,7 +31,7 @@ no-twin true b c h = h
 no-twin false b c h = refl
 
 -- an item that another does not match in folder and name is no twin of it
-not-twin : (new old : LiveItem) → has_name_in new.parent new.name old ≡ false → is_twin (live_node new) (live_node old) ≡ false
+pub not-twin : (new old : LiveItem) → has_name_in new.parent new.name old ≡ false → is_twin (live_node new) (live_node old) ≡ false
 not-twin new old h =
     no-twin (nat_lt old.number new.number && not (nat_eq old.number 1) && not (nat_eq new.number 1)) (nat_eq old.parent new.parent) (equal_caseless old.name new.name) h
 

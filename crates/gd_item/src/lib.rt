@@ -17,8 +17,8 @@ mod token;
 mod tree_laws;
 
 pub use condition::{Condition, matches};
-pub use drive_instances::moves_refused;
 pub use digest::{Digest, digest_of};
+pub use drive_instances::moves_refused;
 pub use fault::{ErrorCode, SessionFault, StoreFault};
 pub use id::ItemId;
 pub use instances::{file_replaced, folder_refusals, folder_removed, taken_name_put};
@@ -30,8 +30,8 @@ pub use request::{Address, Request, RequestKind};
 pub use step::{DriveEvent, Step, Who};
 pub use token::Token;
 pub use tree_laws::{
-    made_folder_keeps_tree, new_bytes_keep_tree, new_drive_is_tree, new_file_keeps_tree,
-    numbers_count_effects,
+    made_folder_keeps_tree, moved_item_keeps_tree, new_bytes_keep_tree, new_drive_is_tree,
+    new_file_keeps_tree, numbers_count_effects, removed_items_keep_tree,
 };
 
 #[cfg(test)]

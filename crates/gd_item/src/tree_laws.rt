@@ -1,7 +1,8 @@
 //! What a drive holds stays a tree, each law the contract of a function that does nothing.
 ghost use Rattle.std.specs.Prelude.{◌≡◌, ℕ, ◌+◌, true, false, List, [], ◌∷◌, ◌++◌, length};
 ghost use Rattle.gd_names.specs.Settling.{is_taken};
-ghost use Rattle.gd_item.specs.Inventory.{Effect, MadeFolder, PutNew, PutOver, new_drive, inventory};
+ghost use Rattle.gd_item.specs.Inventory.{Effect, MadeFolder, PutNew, PutOver, Moved, new_drive, inventory};
+ghost use Rattle.gd_item.specs.Moves.{is_in, is_taken_by_other, remove_effects};
 ghost use Rattle.gd_item.specs.Nodes.{is_folder};
 ghost use Rattle.gd_item.specs.Refusals.{is_there, siblings_in};
 ghost use Rattle.gd_item.specs.Sound.{IsItemMap};
@@ -35,4 +36,19 @@ pub fn new_file_keeps_tree()
 pub fn new_bytes_keep_tree()
     ensures { (effects : List Effect) (number : ℕ) (bytes : List ℕ) → let held = inventory effects in
         IsItemMap held → is_folder number (nodes_of held) ≡ false → IsItemMap (inventory (effects ++ PutOver number bytes ∷ [])) }
+{}
+
+/// A drive stays a tree where an item is moved to a folder that is there and does not stand below it, with a name
+/// that no other item of this folder has.
+pub fn moved_item_keeps_tree()
+    ensures { (effects : List Effect) (number parent : ℕ) (name : List ℕ) → let held = inventory effects in
+        IsItemMap held → is_there parent (nodes_of held) ≡ true → is_folder parent (nodes_of held) ≡ true
+        → is_in (nodes_of held) number parent ≡ false → is_taken_by_other number parent name held.items ≡ false
+        → IsItemMap (inventory (effects ++ Moved number parent name ∷ [])) }
+{}
+
+/// A drive stays a tree where an item is removed with all that stands below it.
+pub fn removed_items_keep_tree()
+    ensures { (effects : List Effect) (number : ℕ) → let held = inventory effects in
+        IsItemMap held → IsItemMap (inventory (effects ++ remove_effects held number)) }
 {}

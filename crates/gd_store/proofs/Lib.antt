@@ -6,6 +6,7 @@ pub mod Feeds
 pub mod Files
 pub mod Insides
 pub mod Listing
+pub mod Logs
 pub mod Overwriting
 pub mod Removals
 pub mod Sounds

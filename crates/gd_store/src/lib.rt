@@ -4,6 +4,7 @@
 mod children;
 mod edit;
 mod feed;
+mod laws;
 mod look;
 mod moving;
 mod path;
@@ -13,6 +14,7 @@ mod store;
 mod versions;
 
 pub use gd_item::StoreFault;
+pub use laws::every_log_is_a_tree;
 pub use store::Store;
 
 #[cfg(test)]
