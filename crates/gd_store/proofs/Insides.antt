@@ -1,13 +1,13 @@
 -- Whether an item stands below another one, and putting an item back where it stood.
-use Rattle.std.proofs.Common.{◌≡◌, ℕ, zero, suc, ◌-◌, Bool, true, false, ◌||◌, cond, nat_eq, List, [], ◌∷◌, map, Option, Some, None, Result, IfOk, ◌&&◌, refl, sym, ap, ◌∙◌, subst, arith}
+use Rattle.std.proofs.Common.{◌≡◌, ℕ, zero, suc, ◌+◌, ◌-◌, Bool, true, false, ◌||◌, cond, nat_eq, List, [], ◌∷◌, map, Some, None, Result, IfOk, ◌&&◌, refl, sym, ap, ◌∙◌, subst, arith}
 use Rattle.std.specs.List.{list_any}
 use Rattle.std.specs.Option.{option_map}
 use Rattle.std.proofs.lemmas.Bool.{ne_eqb}
 use Rattle.gd_item.specs.declared.live.LiveItem.{LiveItem}
 use Rattle.gd_item.specs.Nodes.{Node, live_node, node_at, path_of}
 use Rattle.gd_item.specs.Refusals.{is_too_long}
-use Rattle.gd_item.specs.Inventory.{live_at, changed, with_place}
-use Rattle.gd_item.specs.Moves.{is_node_such, is_in_within, is_in}
+use Rattle.gd_item.specs.Inventory.{Inventory, Moved, after, live_at, changed, with_place}
+use Rattle.gd_item.specs.Moves.{is_node_such, is_in_within, is_in, is_any_too_long}
 use Rattle.gd_store.specs.Moved.{is_any_long}
 use Rattle.gd_store.proofs.Climbs.{node_at-live}
 
@@ -46,14 +46,14 @@ put-back number change parent name (x ∷ items) item =
     let f : LiveItem → LiveItem = with_place change parent name in
     (elim (nat_eq x.number number) as (λ b. b ≡ nat_eq x.number number → Some item ≡ cond b (Some x) (live_at number items) → changed number g (cond b (f x ∷ items) (x ∷ changed number f items)) ≡ x ∷ items) [
       | true ↦ λ is found.
-        let same : item ≡ x = cc in
-        let P : LiveItem → Type 0 = λ y. cond (nat_eq x.number number) (with_place y.change y.parent y.name (f x) ∷ items) (f x ∷ changed number (with_place y.change y.parent y.name) items) ≡ x ∷ items in
-        let back : cond (nat_eq x.number number) (with_place x.change x.parent x.name (f x) ∷ items) (f x ∷ changed number (with_place x.change x.parent x.name) items) ≡ x ∷ items =
-        ap (λ b. cond b (x ∷ items) (f x ∷ changed number (with_place x.change x.parent x.name) items)) (sym is) in
-        subst P (sym same) back
+          let same : item ≡ x = cc in
+          let P : LiveItem → Type 0 = λ y. cond (nat_eq x.number number) (with_place y.change y.parent y.name (f x) ∷ items) (f x ∷ changed number (with_place y.change y.parent y.name) items) ≡ x ∷ items in
+          let back : cond (nat_eq x.number number) (with_place x.change x.parent x.name (f x) ∷ items) (f x ∷ changed number (with_place x.change x.parent x.name) items) ≡ x ∷ items =
+          ap (λ b. cond b (x ∷ items) (f x ∷ changed number (with_place x.change x.parent x.name) items)) (sym is) in
+          subst P (sym same) back
       | false ↦ λ is found.
-        ap (λ b. cond b (g x ∷ changed number f items) (x ∷ changed number g (changed number f items))) (sym is)
-        ∙ ap (λ xs. x ∷ xs) (put-back number change parent name items item found)
+          ap (λ b. cond b (g x ∷ changed number f items) (x ∷ changed number g (changed number f items))) (sym is)
+          ∙ ap (λ xs. x ∷ xs) (put-back number change parent name items item found)
     ]) refl
 
 -- whether a path is too long where nothing is changed
@@ -69,7 +69,7 @@ placed-back number change parent new_name old_name items moved back item found n
     ∙ put-back number change parent new_name items item found
 
 -- whether a path is too long is read off the nodes
-any-in : List Node → ℕ → List Node → Bool
+abbrev any-in : List Node → ℕ → List Node → Bool
 any-in nodes top rest = list_any (λ (node : Node). is_in nodes top node.number && is_too_long (path_of nodes node.number)) rest
 
 by-nodes : (nodes : List Node) (top : ℕ) (rest : List LiveItem)
@@ -91,3 +91,8 @@ any-change number a b parent name items =
     let xs : List LiveItem = changed number (with_place a parent name) items in
     let ys : List LiveItem = changed number (with_place b parent name) items in
     by-nodes (map live_node xs) number xs ∙ ap (λ nodes. any-in nodes number nodes) (same-nodes number a b parent name items) ∙ sym (by-nodes (map live_node ys) number ys)
+
+pub long-moved : (held : Inventory) (number change parent : ℕ) (name : List ℕ) (items : List LiveItem) (long : Bool) → items ≡ held.items
+    → long ≡ is_any_long number (changed number (with_place change parent name) items) → long ≡ is_any_too_long (after held (Moved number parent name)) number
+long-moved held number change parent name items long are is =
+    is ∙ ap (λ xs. is_any_long number (changed number (with_place change parent name) xs)) are ∙ any-change number change (held.number + 1) parent name held.items

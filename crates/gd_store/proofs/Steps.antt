@@ -1,8 +1,9 @@
 -- A store that stands for its effects stands for one more.
-use Rattle.std.proofs.Common.{◌≡◌, List, [], ◌∷◌, ◌++◌, Option, None, Result, Ok, Err, sym, ap, ◌∙◌, subst}
+use Rattle.std.proofs.Common.{◌≡◌, List, [], ◌∷◌, ◌++◌, Option, Some, None, ◌⊎◌, Result, Ok, Err, sym, ap, ◌∙◌, subst}
 use Rattle.gd_item.specs.Inventory.{Inventory, Effect, after, after_all, inventory}
 use Rattle.gd_item.specs.Sound.{IsItemMap}
 use Rattle.gd_item.specs.declared.fault.StoreFault.{StoreFault}
+use Rattle.gd_item.specs.declared.fault.StoreFault.TheVariants.{Memory}
 use Rattle.gd_item.proofs.Effects.{inventory-snoc, inventory-append}
 use Rattle.gd_store.specs.Stands.{Stands, Answers}
 
@@ -42,6 +43,7 @@ all-answers old new log refusal effects (Ok x) stands sound answer = record {
   ok = (sym (ap refusal stands.held) ∙ answer.ok.0, more old new log effects stands answer.ok.1 (sound (sym answer.ok.0) answer.ok.1));
   err = tt;
 }
-all-answers old new log refusal effects (Err fault) stands sound answer =
-    let P : Inventory → Type 0 = λ held. Answers (refusal held) (Err fault) (λ _. Stands new (log ++ effects (inventory log))) in
-    subst P stands.held (record { ok = tt; err = answer.err })
+all-answers old new log refusal effects (Err fault) stands sound answer = record {
+  ok = tt;
+  err = subst (λ held. (fault ≡ Memory) ⊎ (refusal held ≡ Some fault)) stands.held answer.err;
+}

@@ -48,12 +48,7 @@ pub fn is_taken_by_other(items: &[LiveItem], number: u64, parent: u64, name: &Te
 }
 
 /// Whether a number is in the top and has a path that is longer than any item's may be.
-fn is_long_in(
-    alloc: Global,
-    items: &[LiveItem],
-    top: u64,
-    number: u64,
-) -> Result<bool, NoMemory>
+fn is_long_in(alloc: Global, items: &[LiveItem], top: u64, number: u64) -> Result<bool, NoMemory>
     ensures { IfOk result (λ long. long ≡ (is_node_in (map live_node items.now) top number && is_too_long (path_of (map live_node items.now) number))) }
 {
     if !is_in(items, top, number) {

@@ -98,13 +98,22 @@ fn versions(rt: HostRuntime) -> Result<(), Fail> {
     store.put(&place, b"second", Conflict::Replace, &free, 0)?;
     assert_eq!(rt; store.content_number(ItemId(2))?, 3);
     assert_eq!(rt; store.version(ItemId(2), 2)?.as_slice(), b"one".as_slice());
-    assert_eq!(rt; store.version(ItemId(2), 3)?.as_slice(), b"second".as_slice());
-    assert_eq!(rt; store.version(ItemId(2), 1).err(), Some(StoreFault::NotFound));
+    assert_eq!(rt;
+        store.version(ItemId(2), 3)?.as_slice(),
+        b"second".as_slice()
+    );
+    assert_eq!(rt;
+        store.version(ItemId(2), 1).err(),
+        Some(StoreFault::NotFound)
+    );
     assert_eq!(rt; store.content_number(ItemId(1)), Err(StoreFault::NotFile));
     assert_eq!(rt; store.kept_bytes(), 9);
     assert_eq!(rt; store.live_items(), 2);
     store.remove(ItemId(2), &free)?;
-    assert_eq!(rt; store.version(ItemId(2), 3).err(), Some(StoreFault::NotFound));
+    assert_eq!(rt;
+        store.version(ItemId(2), 3).err(),
+        Some(StoreFault::NotFound)
+    );
     assert_eq!(rt; store.kept_bytes(), 9);
     Ok(())
 }
@@ -187,10 +196,19 @@ fn kept_bytes_have_a_limit(rt: HostRuntime) -> Result<(), Fail> {
         assert_eq!(rt; put.0, ItemId(2));
     }
     assert_eq!(rt; store.kept_bytes(), 536_870_912);
-    assert_eq!(rt; store.put(&place, b"", Conflict::Replace, &free, 0), Ok((ItemId(2), false)));
-    assert_eq!(rt; store.put(&place, b"1", Conflict::Replace, &free, 0), Err(StoreFault::Quota));
+    assert_eq!(rt;
+        store.put(&place, b"", Conflict::Replace, &free, 0),
+        Ok((ItemId(2), false))
+    );
+    assert_eq!(rt;
+        store.put(&place, b"1", Conflict::Replace, &free, 0),
+        Err(StoreFault::Quota)
+    );
     store.remove(ItemId(2), &free)?;
-    assert_eq!(rt; store.put(&place, b"1", Conflict::Replace, &free, 0), Err(StoreFault::Quota));
+    assert_eq!(rt;
+        store.put(&place, b"1", Conflict::Replace, &free, 0),
+        Err(StoreFault::Quota)
+    );
     Ok(())
 }
 
@@ -200,7 +218,10 @@ fn moves_and_removals(rt: HostRuntime) -> Result<(), Fail> {
     let mut store = Store::new(alloc)?;
     let free = Condition::Free;
     assert_eq!(rt; make(alloc, &mut store, 1, "d")?, 2);
-    assert_eq!(rt; put(alloc, &mut store, 2, "f", Conflict::Fail, &free)?, Ok((ItemId(3), true)));
+    assert_eq!(rt;
+        put(alloc, &mut store, 2, "f", Conflict::Fail, &free)?,
+        Ok((ItemId(3), true))
+    );
     store.remove(ItemId(2), &free)?;
     let (changes, more) = store.changed_after(3, 0, 9)?;
     assert_eq!(rt; more, None);
@@ -212,7 +233,10 @@ fn moves_and_removals(rt: HostRuntime) -> Result<(), Fail> {
     assert_eq!(rt; gone[1].id, ItemId(2));
     assert_eq!(rt; gone[1].etag.0, text(alloc, "e5")?);
     assert_eq!(rt; store.changed_after(3, 4, 9)?.0.len(), 1);
-    assert_eq!(rt; put(alloc, &mut store, 1, "f", Conflict::Fail, &free)?, Ok((ItemId(4), true)));
+    assert_eq!(rt;
+        put(alloc, &mut store, 1, "f", Conflict::Fail, &free)?,
+        Ok((ItemId(4), true))
+    );
     store.patch(ItemId(4), Some(&text(alloc, "F")?), None, &free)?;
     assert_eq!(rt; store.get(ItemId(4), false)?.name, text(alloc, "F")?);
     assert_eq!(rt; make(alloc, &mut store, 1, "e")?, 5);
@@ -255,7 +279,11 @@ fn condition(alloc: Global, tag: &str) -> Result<Condition, Fail> {
 fn fault_of(alloc: Global, store: &mut Store, row: &Row<'_>) -> Result<Option<StoreFault>, Fail> {
     let condition = condition(alloc, row.condition)?;
     let name = text(alloc, row.name)?;
-    let name = if row.name.is_empty() { None } else { Some(&name) };
+    let name = if row.name.is_empty() {
+        None
+    } else {
+        Some(&name)
+    };
     let parent = if row.parent == 0 {
         None
     } else {
@@ -356,7 +384,13 @@ fn many_items_are_removed_at_once(rt: HostRuntime) -> Result<(), Fail> {
         for number in 0..22 {
             let name = format!(in alloc; "{number}")?;
             let place = Place::Under(ItemId(parent), Text::from_string(name));
-            store.put(&place, bytes.as_slice(), Conflict::Fail, &Condition::Free, 0)?;
+            store.put(
+                &place,
+                bytes.as_slice(),
+                Conflict::Fail,
+                &Condition::Free,
+                0,
+            )?;
         }
     }
     assert_eq!(rt; store.live_items(), 2071);

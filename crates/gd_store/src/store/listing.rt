@@ -53,7 +53,7 @@ impl Store {
             × (found.1 ≡ has_more_children number (option_copied after.entry) most self.now)) }
     {
         let found = self.children_after(number, after)?;
-        let more = most < found.len() as u64;
+        let more = most < found.as_slice().len() as u64;
         let records = self.first_records(found, most)?;
         Ok((records, more))
     }

@@ -136,7 +136,13 @@ impl Store {
         requires { self.old.number + 1 < 2 ^ 64 }
         ensures { self.new ≡ after self.old (Moved number parent name) }
     {
-        place_item(self.items.as_mut_slice(), number, self.number + 1, parent, name);
+        place_item(
+            self.items.as_mut_slice(),
+            number,
+            self.number + 1,
+            parent,
+            name,
+        );
         self.number += 1;
     }
 

@@ -5,7 +5,7 @@ ghost use Rattle.gd_item.specs.Refusals.{is_met as is_condition_met};
 
 use super::Store;
 use crate::look::is_known;
-use crate::removing::{remove_each, removal_order};
+use crate::removing::{removal_order, remove_each};
 use gd_item::{Condition, StoreFault};
 use gd_names::NoMemory;
 
