@@ -249,6 +249,7 @@ fn moves_and_removals(rt: HostRuntime) -> Result<(), Fail> {
 
 /// What a row of the table below wants: an item, a new name or none (`""`), a new folder or none (0), and a condition
 /// or none (`""`).
+#[derive(Drop)]
 struct Row<'a> {
     id: u64,
     name: &'a str,
@@ -257,7 +258,13 @@ struct Row<'a> {
     fault: StoreFault,
 }
 
-fn row<'a>(id: u64, name: &'a str, parent: u64, condition: &'a str, fault: StoreFault) -> Row<'a> {
+fn wanted<'a>(
+    id: u64,
+    name: &'a str,
+    parent: u64,
+    condition: &'a str,
+    fault: StoreFault,
+) -> Row<'a> {
     Row {
         id,
         name,
@@ -319,37 +326,37 @@ fn refused_moves(rt: HostRuntime) -> Result<(), Fail> {
     bad.push_str(long)?;
     let bad = bad.as_str();
     let rows = [
-        row(99, "", 1, "", StoreFault::NotFound),
-        row(1, "r", 1, "", StoreFault::Root),
-        row(5, "a:", 0, "", StoreFault::BadName),
-        row(5, "", 99, "", StoreFault::NotFound),
-        row(2, "", 5, "", StoreFault::NotFolder),
-        row(5, "g", 0, "e1", StoreFault::Modified),
-        row(2, "", 3, "", StoreFault::IntoItself),
-        row(5, "A", 0, "", StoreFault::NameTaken),
-        row(5, long, 6, "", StoreFault::PathTooLong),
-        row(99, "a:", 1, "", StoreFault::NotFound),
-        row(99, "", 5, "", StoreFault::NotFound),
-        row(99, "", 1, "e1", StoreFault::NotFound),
-        row(99, "a", 1, "", StoreFault::NotFound),
-        row(1, "a:", 1, "", StoreFault::Root),
-        row(1, "r", 99, "", StoreFault::Root),
-        row(1, "r", 5, "", StoreFault::Root),
-        row(1, "r", 1, "e9", StoreFault::Root),
-        row(1, "a", 1, "", StoreFault::Root),
-        row(5, "a:", 99, "", StoreFault::BadName),
-        row(2, "a:", 5, "", StoreFault::BadName),
-        row(5, "a:", 0, "e1", StoreFault::BadName),
-        row(2, "a:", 3, "", StoreFault::BadName),
-        row(5, bad, 6, "", StoreFault::BadName),
-        row(5, "", 99, "e1", StoreFault::NotFound),
-        row(2, "", 5, "e1", StoreFault::NotFolder),
-        row(5, "", 5, "", StoreFault::NotFolder),
-        row(2, "", 3, "e1", StoreFault::Modified),
-        row(5, "a", 0, "e1", StoreFault::Modified),
-        row(5, long, 6, "e1", StoreFault::Modified),
-        row(2, "a", 3, "", StoreFault::IntoItself),
-        row(7, "", 6, "", StoreFault::NameTaken),
+        wanted(99, "", 1, "", StoreFault::NotFound),
+        wanted(1, "r", 1, "", StoreFault::Root),
+        wanted(5, "a:", 0, "", StoreFault::BadName),
+        wanted(5, "", 99, "", StoreFault::NotFound),
+        wanted(2, "", 5, "", StoreFault::NotFolder),
+        wanted(5, "g", 0, "e1", StoreFault::Modified),
+        wanted(2, "", 3, "", StoreFault::IntoItself),
+        wanted(5, "A", 0, "", StoreFault::NameTaken),
+        wanted(5, long, 6, "", StoreFault::PathTooLong),
+        wanted(99, "a:", 1, "", StoreFault::NotFound),
+        wanted(99, "", 5, "", StoreFault::NotFound),
+        wanted(99, "", 1, "e1", StoreFault::NotFound),
+        wanted(99, "a", 1, "", StoreFault::NotFound),
+        wanted(1, "a:", 1, "", StoreFault::Root),
+        wanted(1, "r", 99, "", StoreFault::Root),
+        wanted(1, "r", 5, "", StoreFault::Root),
+        wanted(1, "r", 1, "e9", StoreFault::Root),
+        wanted(1, "a", 1, "", StoreFault::Root),
+        wanted(5, "a:", 99, "", StoreFault::BadName),
+        wanted(2, "a:", 5, "", StoreFault::BadName),
+        wanted(5, "a:", 0, "e1", StoreFault::BadName),
+        wanted(2, "a:", 3, "", StoreFault::BadName),
+        wanted(5, bad, 6, "", StoreFault::BadName),
+        wanted(5, "", 99, "e1", StoreFault::NotFound),
+        wanted(2, "", 5, "e1", StoreFault::NotFolder),
+        wanted(5, "", 5, "", StoreFault::NotFolder),
+        wanted(2, "", 3, "e1", StoreFault::Modified),
+        wanted(5, "a", 0, "e1", StoreFault::Modified),
+        wanted(5, long, 6, "e1", StoreFault::Modified),
+        wanted(2, "a", 3, "", StoreFault::IntoItself),
+        wanted(7, "", 6, "", StoreFault::NameTaken),
     ];
     for row in &rows {
         assert_eq!(rt; fault_of(alloc, &mut store, row)?, Some(row.fault));
