@@ -1,5 +1,5 @@
 -- What a store holds stays a tree.
-use Rattle.std.proofs.Common.{◌≡◌, ℕ, ◌+◌, ◌<◌, ◌≤◌, true, false, List, length, None, refl, sym, subst, arith}
+use Rattle.std.proofs.Common.{◌≡◌, ℕ, ◌+◌, ◌^◌, ◌<◌, ◌≤◌, true, false, not, nat_eq, List, [], ◌∷◌, length, Option, None, refl, sym, subst, arith}
 use Rattle.std.specs.List.{All}
 use Rattle.std.proofs.lemmas.List.Elements.{All-weaker}
 use Rattle.gd_names.specs.Caseless.{equal_caseless}
@@ -8,17 +8,21 @@ use Rattle.gd_names.specs.declared.conflict.Sibling.{Sibling}
 use Rattle.gd_names.specs.declared.conflict.Settle.{Settle}
 use Rattle.gd_names.specs.declared.conflict.Settle.TheVariants.{Free, Over, Refuse}
 use Rattle.gd_conflict.proofs.Free.{settled-free, over-sibling}
-use Rattle.gd_item.specs.Inventory.{Inventory, Effect, after, PutOver}
+use Rattle.gd_item.specs.Inventory.{Inventory, Effect, after, after_all, PutOver, Moved, live_at}
+use Rattle.gd_item.specs.Moves.{new_parent, new_name, is_bad_name, is_in, is_taken_by_other, is_any_too_long, patch_refusal, patch_effect, remove_refusal, remove_effects}
 use Rattle.gd_item.specs.Nodes.{is_folder}
-use Rattle.gd_item.specs.Refusals.{settled_in, siblings_in, folder_effect, file_effect, make_folder_refusal, make_folder_effect, put_over_refusal, put_under_refusal}
+use Rattle.gd_item.specs.Refusals.{is_there, is_met, is_over_quota, settled_in, siblings_in, folder_effect, file_effect, make_folder_refusal, make_folder_effect, put_over_refusal, put_under_refusal}
 use Rattle.gd_item.specs.Sound.{IsWithin, IsItemMap}
 use Rattle.gd_item.specs.Trees.{nodes_of}
 use Rattle.gd_item.specs.declared.condition.Condition.{Condition}
 use Rattle.gd_item.specs.declared.live.LiveItem.{LiveItem}
+use Rattle.gd_item.specs.declared.fault.StoreFault.TheVariants.{NotFound, NotFolder, Root, BadName, Modified, IntoItself, NameTaken, PathTooLong, Quota}
 use Rattle.gd_item.proofs.Effects.{next-inventory, number-positive}
+use Rattle.gd_item.proofs.Moving.{sound-moved}
+use Rattle.gd_item.proofs.Removing.{sound-removed-all}
 use Rattle.gd_item.proofs.Soundness.{sound-folder, sound-file, sound-over}
 use Rattle.gd_store.specs.Stands.{Stands}
-use Rattle.gd_store.proofs.Allowed.{MayMake, may-make, MayPut, may-put, clear, HasRoom}
+use Rattle.gd_store.proofs.Allowed.{MayMake, may-make, MayPut, may-put, clear, un-not, HasRoom, has-room, next-number}
 use Rattle.gd_store.proofs.Counts.{siblings-few}
 use Rattle.gd_store.proofs.Files.{file-at}
 
@@ -81,3 +85,42 @@ put-over-sound old new log number bytes condition others stands allowed is =
     let a = clear _ _ _ allowed in
     let b = clear _ _ _ a.1 in
     subst IsItemMap (sym is) (sound-over old number bytes stands.sound (number-begun old log stands) b.0)
+
+-- an item that is moved
+pub moved-sound : (old new : Inventory) (log : List Effect) (number : ℕ) (name : Option (List ℕ)) (parent : Option ℕ) (condition : Condition) → Stands old log → None ≡ patch_refusal old number name parent condition
+    → new ≡ after_all old (patch_effect old number name parent ∷ []) → IsItemMap new
+moved-sound old new log number name parent condition stands allowed is =
+    let a = clear _ _ _ allowed in
+    let b = clear _ _ _ a.1 in
+    let c = clear _ _ _ b.1 in
+    let d = clear _ _ _ c.1 in
+    let e = clear _ _ _ d.1 in
+    let f = clear _ _ _ e.1 in
+    let g = clear _ _ _ f.1 in
+    let h = clear _ _ _ g.1 in
+    subst IsItemMap (sym is)
+    (sound-moved old number (new_parent old number parent) (new_name old number name) stands.sound (number-begun old log stands) b.0 (un-not _ d.0) (un-not _ e.0) g.0 h.0)
+
+-- an item that is removed with all below it
+pub removed-sound : (old new : Inventory) (log : List Effect) (number : ℕ) (condition : Condition) → Stands old log → None ≡ remove_refusal old number condition → new ≡ after_all old (remove_effects old number) → IsItemMap new
+removed-sound old new log number condition stands allowed is =
+    let a = clear _ _ _ allowed in
+    let b = clear _ _ _ a.1 in
+    subst IsItemMap (sym is) (sound-removed-all old number stands.sound (number-begun old log stands) b.0)
+
+-- an item may be moved only before the last number
+pub may-move : (held : Inventory) (number : ℕ) (name : Option (List ℕ)) (parent : Option ℕ) (condition : Condition) → None ≡ patch_refusal held number name parent condition → held.number + 1 < 2 ^ 64
+may-move held number name parent condition h =
+    let to : ℕ = new_parent held number parent in
+    let named : List ℕ = new_name held number name in
+    let a = clear (not (is_there number (nodes_of held))) NotFound _ h in
+    let b = clear (nat_eq number 1) Root _ a.1 in
+    let c = clear (is_bad_name name) BadName _ b.1 in
+    let d = clear (not (is_there to (nodes_of held))) NotFound _ c.1 in
+    let e = clear (not (is_folder to (nodes_of held))) NotFolder _ d.1 in
+    let f = clear (not (is_met condition (live_at number held.items))) Modified _ e.1 in
+    let g = clear (is_in (nodes_of held) number to) IntoItself _ f.1 in
+    let i = clear (is_taken_by_other number to named held.items) NameTaken _ g.1 in
+    let j = clear (is_any_too_long (after held (Moved number to named)) number) PathTooLong _ i.1 in
+    let k = clear (is_over_quota held 0 0) Quota _ j.1 in
+    next-number held 0 0 (has-room held 0 0 k.0)

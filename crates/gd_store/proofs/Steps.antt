@@ -1,9 +1,10 @@
 -- A store that stands for its effects stands for one more.
-use Rattle.std.proofs.Common.{◌≡◌, List, [], ◌∷◌, ◌++◌, Option, None, Result, Ok, Err, sym, ap, ◌∙◌, subst}
-use Rattle.gd_item.specs.Inventory.{Inventory, Effect, after, inventory}
+use Rattle.std.proofs.Common.{◌≡◌, List, [], ◌∷◌, ◌++◌, Option, Some, None, ◌⊎◌, Result, Ok, Err, sym, ap, ◌∙◌, subst}
+use Rattle.gd_item.specs.Inventory.{Inventory, Effect, after, after_all, inventory}
 use Rattle.gd_item.specs.Sound.{IsItemMap}
 use Rattle.gd_item.specs.declared.fault.StoreFault.{StoreFault}
-use Rattle.gd_item.proofs.Effects.{inventory-snoc}
+use Rattle.gd_item.specs.declared.fault.StoreFault.TheVariants.{Memory}
+use Rattle.gd_item.proofs.Effects.{inventory-snoc, inventory-append}
 use Rattle.gd_store.specs.Stands.{Stands, Answers}
 
 -- one more effect
@@ -25,3 +26,24 @@ answers old new log refusal effect value (Ok x) stands sound answer = record {
 answers old new log refusal effect value (Err fault) stands sound answer =
     let P : Inventory → Type 0 = λ held. Answers (refusal held) (Err fault) (λ x. (x ≡ value (inventory log)) × Stands new (log ++ effect (inventory log) ∷ [])) in
     subst P stands.held (record { ok = tt; err = answer.err })
+
+-- a store that stands for its effects stands for more of them
+pub more : (old new : Inventory) (log : List Effect) (effects : Inventory → List Effect) → Stands old log → new ≡ after_all old (effects old) → IsItemMap new → Stands new (log ++ effects (inventory log))
+more old new log effects stands is sound = record {
+  held = is ∙ ap (λ held. after_all held (effects held)) stands.held ∙ sym (inventory-append log (effects (inventory log)));
+  sound = sound;
+}
+
+-- the same of an answer about several effects, which hands nothing back
+pub all-answers : {T : Type 0} (old new : Inventory) (log : List Effect) (refusal : Inventory → Option StoreFault) (effects : Inventory → List Effect) (result : Result T StoreFault)
+    → Stands old log → (None ≡ refusal old → new ≡ after_all old (effects old) → IsItemMap new)
+    → Answers (refusal old) result (λ _. new ≡ after_all old (effects old))
+    → Answers (refusal (inventory log)) result (λ _. Stands new (log ++ effects (inventory log)))
+all-answers old new log refusal effects (Ok x) stands sound answer = record {
+  ok = (sym (ap refusal stands.held) ∙ answer.ok.0, more old new log effects stands answer.ok.1 (sound (sym answer.ok.0) answer.ok.1));
+  err = tt;
+}
+all-answers old new log refusal effects (Err fault) stands sound answer = record {
+  ok = tt;
+  err = subst (λ held. (fault ≡ Memory) ⊎ (refusal held ≡ Some fault)) stands.held answer.err;
+}

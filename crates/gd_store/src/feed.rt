@@ -1,9 +1,9 @@
 ghost use Rattle.std.specs.Prelude.{◌≡◌, ◌-◌, ◌<◌, cond, nat_lt, length, slice_index, OnOk, IfOk};
 ghost use Rattle.std.specs.Map.{keys_of};
-ghost use Rattle.gd_item.specs.Records.{in_change_order_from, root_change, live_changes, first_of, last_of};
+ghost use Rattle.gd_item.specs.Records.{in_change_order_from, root_change, live_changes, removals, first_of, last_of};
 
-use crate::record::{make_record, make_root_record};
-use gd_item::{Item, LiveItem};
+use crate::record::{make_deleted_record, make_record, make_root_record};
+use gd_item::{Item, LiveItem, Tombstone};
 use gd_names::{List, NoMemory};
 use std::alloc::Global;
 use std::collections::BTreeMap;
@@ -37,6 +37,25 @@ pub fn put_items(
         if position < item.change {
             let record = make_record(alloc, items, item)?;
             changes.insert(item.change, record)?;
+        }
+    }
+    Ok(())
+}
+
+/// Puts the records of the removed items that are past both numbers among the changes.
+pub fn put_stones(
+    alloc: Global,
+    changes: &mut BTreeMap<u64, Item>,
+    stones: &[Tombstone],
+    position: u64,
+    removed_after: u64,
+) -> Result<(), NoMemory>
+    ensures { OnOk result (changes.new.entries ≡ in_change_order_from changes.old.entries (removals position removed_after stones.now)) }
+{
+    for stone in stones {
+        if position < stone.change && removed_after < stone.change {
+            let record = make_deleted_record(alloc, stone)?;
+            changes.insert(stone.change, record)?;
         }
     }
     Ok(())

@@ -1,12 +1,11 @@
 ghost use Rattle.std.specs.Prelude.{◌≡◌, map, IfOk};
 ghost use Rattle.std.specs.Option.{option_copied};
 ghost use Rattle.gd_item.specs.Nodes.{live_node, is_folder, child_at, number_at};
-ghost use Rattle.gd_item.specs.Inventory.{changed, with_bytes};
 ghost use Rattle.gd_item.specs.Inventory.{live_at};
 ghost use Rattle.gd_item.specs.Refusals.{is_there, live_named, siblings_in};
 
 use gd_item::LiveItem;
-use gd_names::{Bytes, List, NoMemory, Sibling, Text, same_caseless};
+use gd_names::{List, NoMemory, Sibling, Text, same_caseless};
 use std::alloc::Global;
 
 /// The living item of a number.
@@ -93,20 +92,6 @@ pub fn siblings(alloc: Global, items: &[LiveItem], parent: u64) -> Result<List<S
         }
     }
     Ok(found)
-}
-
-/// Gives new bytes to the item of a number.
-pub fn overwrite(items: &mut [LiveItem], number: u64, change: u64, bytes: Bytes)
-    ensures { items.new ≡ changed number (with_bytes change bytes) items.old }
-{
-    for item in items.iter_mut() {
-        if item.number == number {
-            item.bytes = Some(bytes);
-            item.change = change;
-            item.content = change;
-            return;
-        }
-    }
 }
 
 /// The number at the end of the names that go down from the root.

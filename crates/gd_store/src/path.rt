@@ -1,9 +1,10 @@
 ghost use Rattle.std.specs.Prelude.{◌≡◌, map, IfOk};
 ghost use Rattle.gd_item.specs.Nodes.{live_node, path_within, path_of};
+ghost use Rattle.gd_item.specs.Refusals.{is_too_long};
 
 use crate::look::{is_a_folder, item_at};
 use gd_item::LiveItem;
-use gd_names::{List, NoMemory, Path, Text};
+use gd_names::{List, NoMemory, Path, Text, path_fits};
 use std::alloc::Global;
 
 /// The names down to a number, over at most so many folders, if they lead up to the root.
@@ -43,5 +44,15 @@ pub fn path_to(alloc: Global, items: &[LiveItem], number: u64) -> Result<Option<
     match names_within(alloc, items, number, items.len())? {
         None => Ok(None),
         Some(names) => Ok(Some(Path::from_names(names))),
+    }
+}
+
+/// Whether a path, if there is one, is longer than any item's may be.
+pub fn is_long(path: &Option<Path>) -> bool
+    ensures { result ≡ is_too_long path.now }
+{
+    match path {
+        None => false,
+        Some(path) => !path_fits(path),
     }
 }

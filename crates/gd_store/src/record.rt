@@ -1,10 +1,10 @@
 ghost use Rattle.std.specs.Prelude.{◌≡◌, map, IfOk};
-ghost use Rattle.gd_item.specs.Records.{child_count, content_tag, kind_at, size_of, record_of, root_record, parent_path_text};
+ghost use Rattle.gd_item.specs.Records.{child_count, content_tag, kind_at, size_of, record_of, root_record, deleted_record, parent_path_text};
 ghost use Rattle.gd_item.specs.Nodes.{live_node, path_of};
 ghost use Rattle.std.specs.Option.{option_map};
 
 use crate::path::path_to;
-use gd_item::{Item, ItemId, Kind, LiveItem, Tag, ctag_of, digest_of, etag_of};
+use gd_item::{Item, ItemId, Kind, LiveItem, Tag, Tombstone, ctag_of, digest_of, etag_of};
 use gd_names::{Bytes, NoMemory, Path, Text};
 use std::alloc::Global;
 
@@ -83,6 +83,22 @@ pub fn make_root_record(alloc: Global, items: &[LiveItem]) -> Result<Item, NoMem
         kind: Kind::Folder {
             child_count: count_children(items, 1),
         },
+    })
+}
+
+/// The record of a removed item.
+pub fn make_deleted_record(alloc: Global, stone: &Tombstone) -> Result<Item, NoMemory>
+    ensures { IfOk result (λ made. made ≡ deleted_record stone.now) }
+{
+    Ok(Item {
+        id: ItemId(stone.number),
+        parent: Some(ItemId(stone.parent)),
+        parent_path: None,
+        name: Text::from_str(alloc, "")?,
+        size: 0,
+        etag: etag_of(alloc, stone.change)?,
+        ctag: None,
+        kind: Kind::Deleted,
     })
 }
 

@@ -14,10 +14,16 @@ ghost use Rattle.gd_store.specs.Stands.{put_result};
 ghost use Rattle.gd_item.specs.Trees.{nodes_of};
 ghost use Rattle.gd_names.specs.Names.{name_fault};
 
-use crate::feed::first_changes;
+mod listing;
+mod relocating;
+mod removing;
+
+use crate::edit::{keep_version, overwrite};
+use crate::feed::{first_changes, put_items, put_root, put_stones};
 use crate::look::{child_named, find_names, is_a_folder, is_known, item_at, item_named, siblings};
-use crate::path::path_to;
+use crate::path::{is_long, path_to};
 use crate::record::{content_tag_of, make_record, make_root_record, parent_path_of};
+use crate::versions::version_bytes;
 use gd_conflict::settle;
 use gd_item::{
     Condition, Item, ItemId, LiveItem, Place, StoreFault, Tombstone, Version, etag_of, matches,
@@ -65,16 +71,6 @@ fn is_bad_name(name: &Text) -> bool
     match check_name(name) {
         Ok(()) => false,
         Err(_) => true,
-    }
-}
-
-/// Whether a path, if there is one, is longer than any item's may be.
-fn is_long(path: &Option<Path>) -> bool
-    ensures { result ≡ is_too_long path.now }
-{
-    match path {
-        None => false,
-        Some(path) => !path_fits(path),
     }
 }
 
@@ -155,7 +151,7 @@ impl Store {
         ensures { (log : List Effect) → Stands self.now log
             → Answers (not_file (inventory log) id.0) result (λ number. number ≡ content_at id.0 (inventory log)) }
     {
-        Err(StoreFault::Memory)
+        self.content_of(id.0)
     }
 
     /// The bytes of a version of a living file.
@@ -163,7 +159,10 @@ impl Store {
         ensures { (log : List Effect) → Stands self.now log
             → Answers (missing (version_at id.0 version (inventory log))) result (λ bytes. version_at id.0 version (inventory log) ≡ Some bytes) }
     {
-        Err(StoreFault::Memory)
+        match self.find_version(id.0, version)? {
+            Some(bytes) => Ok(bytes),
+            None => Err(StoreFault::NotFound),
+        }
     }
 
     /// The children of a folder in order of their names in lower case, those past a name, and at most so many. Says
@@ -178,7 +177,7 @@ impl Store {
             → Answers (not_folder (inventory log) id.0) result (λ found. (found.0 ≡ first_children id.0 (option_copied after.entry) most (inventory log))
             × (found.1 ≡ has_more_children id.0 (option_copied after.entry) most (inventory log))) }
     {
-        Err(StoreFault::Memory)
+        self.list_children(id.0, after, most)
     }
 
     /// The item at a path. Takes no memory.
@@ -275,7 +274,7 @@ impl Store {
             (λ _. Stands self.new (log ++ patch_effect (inventory log) id.0 (option_copied name.entry) (id_number parent) ∷ [])) }
         ensures kept { OnErr result (self.new ≡ self.old) }
     {
-        Err(StoreFault::Memory)
+        self.relocate(id.0, name, parent, condition)
     }
 
     /// Removes an item and all below it, the deepest first.
@@ -284,7 +283,7 @@ impl Store {
             → Answers (remove_refusal (inventory log) id.0 condition.now) result (λ _. Stands self.new (log ++ remove_effects (inventory log) id.0)) }
         ensures kept { OnErr result (self.new ≡ self.old) }
     {
-        Err(StoreFault::Memory)
+        self.take_out(id.0, condition)
     }
 
     /// The number of the child that has the name, but for case.
@@ -329,11 +328,46 @@ impl Store {
         Ok(made)
     }
 
+    /// The content number of a file.
+    fn content_of(&self, number: u64) -> Result<u64, StoreFault>
+        ensures { Answers (not_file self.now number) result (λ content. content ≡ content_at number self.now) }
+    {
+        if !is_known(self.items.as_slice(), number) {
+            return Err(StoreFault::NotFound);
+        }
+        if is_a_folder(self.items.as_slice(), number) {
+            return Err(StoreFault::NotFile);
+        }
+        match item_at(self.items.as_slice(), number) {
+            None => Ok(0),
+            Some(item) => Ok(item.content),
+        }
+    }
+
+    /// The bytes of a version of a living file, if it has that version.
+    fn find_version(&self, number: u64, version: u64) -> Result<Option<Bytes>, NoMemory>
+        ensures { IfOk result (λ found. found ≡ version_at number version self.now) }
+    {
+        let Some(item) = item_at(self.items.as_slice(), number) else {
+            return Ok(None);
+        };
+        match version_bytes(item, self.replaced.as_slice(), version) {
+            None => Ok(None),
+            Some(bytes) => Ok(Some(bytes.clone()?)),
+        }
+    }
+
     /// The records past a position, and those of what was removed past both numbers, by change number.
     fn changes(&self, position: u64, removed_after: u64) -> Result<BTreeMap<u64, Item>, NoMemory>
         ensures { IfOk result (λ changes. changes.entries ≡ feed self.now position removed_after) }
     {
-        Err(NoMemory)
+        let items = self.items.as_slice();
+        let stones = self.removed.as_slice();
+        let mut changes = BTreeMap::new(self.alloc);
+        put_root(self.alloc, &mut changes, items, position)?;
+        put_items(self.alloc, &mut changes, items, position)?;
+        put_stones(self.alloc, &mut changes, stones, position, removed_after)?;
+        Ok(changes)
     }
 
     /// How a name is settled in a folder.
@@ -467,7 +501,13 @@ impl Store {
         ensures ok { OnOk result (self.new ≡ after self.old (PutOver number bytes)) }
         ensures err { OnErr result (self.new ≡ self.old) }
     {
-        Err(NoMemory)
+        let length = bytes.as_slice().len() as u64;
+        self.replaced.reserve(1)?;
+        let version = overwrite(self.items.as_mut_slice(), number, self.number + 1, bytes);
+        keep_version(&mut self.replaced, version);
+        self.number += 1;
+        self.kept += length;
+        Ok(())
     }
 
     /// A folder that is made, or why it is not.
