@@ -1,2 +1,6 @@
+pub mod Calls
+pub mod Doing
+pub mod Listing
 pub mod Local
 pub mod Loss
+pub mod Memory

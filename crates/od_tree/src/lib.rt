@@ -1,12 +1,24 @@
 //! The local folder and its holding folder: what the user and the client do to them.
 #![tactic(auto)]
 
+mod call;
 mod edit;
+mod entry;
 mod fault;
+mod folder;
+mod listing;
 mod local;
+mod look;
+mod memory;
+mod spots;
 mod step;
+mod tree;
 
+pub use call::TreeCall;
 pub use edit::UserEdit;
+pub use entry::Entry;
 pub use fault::TreeFault;
 pub use local::{HeldFile, LocalFile, Spot};
+pub use memory::MemoryTree;
 pub use step::{LocalStep, TreeOp};
+pub use tree::Tree;

@@ -1,0 +1,4 @@
+pub mod Above
+pub mod Calls
+pub mod Removing
+pub mod Steps
