@@ -1,4 +1,3 @@
 pub mod Above
-pub mod Calls
 pub mod Removing
 pub mod Steps
