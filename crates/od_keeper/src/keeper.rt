@@ -7,6 +7,7 @@ use std::alloc::Global;
 /// Keeps the image from one run of the client to the next.
 pub trait Keeper {
     ghost use Rattle.od_keeper.specs.Keeping.{Loads, Commits, HasKeeperCause};
+    ghost use Rattle.od_keeper.specs.declared.image.Image.{Image};
 
     /// The images that were committed, where they are told. The empty one of the beginning is none of them.
     ghost images: { Self → Option (List Image) };

@@ -4,3 +4,4 @@ pub mod Listing
 pub mod Local
 pub mod Loss
 pub mod Memory
+pub mod Taking
