@@ -31,11 +31,11 @@ filter-cons true x rest = refl
 filter-cons false x rest = refl
 
 -- one more thing is kept or not
-pub kept-more : {X : Type 0} (p : X → Bool) (xs kept now whole : List X) (i : ℕ) (x : X) → i < length xs → x ≡ get_or xs i x → now ≡ kept ++ cond (p x) (x ∷ []) [] → kept ++ filter p (drop i xs) ≡ whole
-    → now ++ filter p (drop (i + 1) xs) ≡ whole
-kept-more {X} p xs kept now whole i x inside is is_now so_far =
+pub kept-more : {X : Type 0} (p : X → Bool) (xs kept now whole : List X) (i : ℕ) (x : X) (stays : Bool) → i < length xs → x ≡ get_or xs i x → stays ≡ p x → now ≡ kept ++ cond stays (x ∷ []) []
+    → kept ++ filter p (drop i xs) ≡ whole → now ++ filter p (drop (i + 1) xs) ≡ whole
+kept-more {X} p xs kept now whole i x stays inside is same is_now so_far =
     let rest : List X = filter p (drop (suc i) xs) in
     let next : drop i xs ≡ x ∷ drop (suc i) xs = drop-cons xs i x inside ∙ ap (λ y. y ∷ drop (suc i) xs) (sym is) in
     ap (λ j. now ++ filter p (drop j xs)) (add-one i)
-    ∙ (ap (λ ys. ys ++ rest) is_now
+    ∙ (ap (λ ys. ys ++ rest) (is_now ∙ ap (λ b. kept ++ cond b (x ∷ []) []) same)
     ∙ (append_assoc kept (cond (p x) (x ∷ []) []) rest ∙ (ap (λ ys. kept ++ ys) (filter-cons (p x) x rest) ∙ (ap (λ ys. kept ++ filter p ys) (sym next) ∙ so_far))))

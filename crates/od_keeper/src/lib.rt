@@ -5,9 +5,11 @@ mod apply;
 mod fault;
 mod image;
 mod keeper;
+mod laws;
 mod memory;
 
 pub use fault::KeeperFault;
 pub use image::{Agreed, BaseRow, Change, Image};
 pub use keeper::Keeper;
+pub use laws::{soundness_is_kept, the_empty_image_is_sound};
 pub use memory::MemoryKeeper;

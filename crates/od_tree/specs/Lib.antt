@@ -4,4 +4,5 @@ pub mod Listing
 pub mod Local
 pub mod Loss
 pub mod Memory
+pub mod Samples
 pub mod Taking
