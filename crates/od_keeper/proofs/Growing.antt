@@ -1,7 +1,7 @@
 -- What a drive has come to only grows with its log: the effects are more, and the epoch never falls.
 use Rattle.std.proofs.Common.{◌≡◌, ℕ, ◌+◌, ◌-◌, ◌^◌, ◌<◌, ◌≤◌, min, map, length-append, Bool, true, false, cond, List, [], ◌∷◌, ◌++◌, length, take, Option, Some, None, refl, ap, sym, ◌∙◌, subst, arith}
 use Rattle.std.specs.List.{All, Any}
-use Rattle.std.proofs.lemmas.List.{append-nil, append_assoc, take-append-le}
+use Rattle.std.proofs.lemmas.List.{append-nil, append_assoc, take-append-le, get_or_append_left}
 use Rattle.std.proofs.lemmas.List.Elements.{All-nil, All-weaker}
 use Rattle.gd_item.specs.Inventory.{Effect, Inventory, new_drive, after, after_all, inventory, inventory_at}
 use Rattle.gd_item.specs.Records.{digest_record}
@@ -86,7 +86,7 @@ accepted-append held (effect ∷ effects) more =
     ∙ sym (append_assoc (put_by held effect) (accepted_after (after held effect) effects) (accepted_after (after_all (after held effect) effects) more))
 
 any-front : {X : Type 0} (P : X → Type 0) (xs ys : List X) → Any P xs → Any P (xs ++ ys)
-any-front P xs ys some = (some.0, some.1, omega (arith, length-append xs ys, some.2), get_or-append-lt xs ys some.0 some.1 some.2 ∙ some.3, some.4)
+any-front P xs ys some = (some.0, some.1, omega (arith, length-append xs ys, some.2), get_or_append_left xs ys some.1 some.0 some.2 ∙ some.3, some.4)
 
 accepted-stays : (versions more : List Version) (what : Agreed) → IsAccepted versions what → IsAccepted (versions ++ more) what
 accepted-stays versions more agreed.Nothing is = tt
