@@ -7,6 +7,8 @@ mod image;
 mod keeper;
 mod laws;
 mod memory;
+#[cfg(test)]
+mod tests;
 
 pub use fault::KeeperFault;
 pub use image::{Agreed, BaseRow, Change, Image};

@@ -13,7 +13,7 @@ fn calls_of_a_folder(rt: HostRuntime) -> Result<(), Fail> {
     assert_eq!(rt; tree.make_dir(&folder), Err(TreeFault::Taken));
     assert_eq!(rt; tree.place(&file, b"one"), Ok(()));
     assert_eq!(rt; tree.place(&file, b"two"), Err(TreeFault::Taken));
-    assert_eq!(rt; tree.read(alloc, &file)?.as_slice(), b"one");
+    assert_eq!(rt; tree.read(alloc, &file)?.as_slice(), b"one".as_slice());
     assert_eq!(rt; tree.read(alloc, &folder), Err(TreeFault::Missing));
     let entries = tree.list(alloc, &folder)?;
     assert_eq!(rt; entries.as_slice().len(), 1);
