@@ -85,7 +85,7 @@ abbrev pub moved_path : List (List ℕ) → List (List ℕ) → List (List ℕ) 
 moved_path from to path = cond (is_from from path) (to ++ drop (length from) path) path
 
 abbrev pub moved_from : List (List ℕ) → List (List ℕ) → List Spot → List Spot
-moved_from from to spots = map (λ spot. record spot { path = moved_path from to spot.path }) spots
+moved_from from to spots = map (λ (spot : Spot). record spot { path = moved_path from to spot.path }) spots
 
 -- the held files without the first of a number
 abbrev pub without_held : ℕ → List HeldFile → List HeldFile
