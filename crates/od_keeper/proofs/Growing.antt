@@ -20,7 +20,8 @@ use Rattle.gd_item.specs.declared.step.Who.{Who}
 use Rattle.gd_item.specs.declared.token.Token.{Token}
 use Rattle.gd_item.proofs.Effects.{number-inventory}
 use Rattle.od_keeper.specs.Images.{empty_image}
-use Rattle.od_keeper.specs.Sound.{uncounted, records, IsAccepted, IsPulled, TokenIs, ItemsAre, IsSound}
+use Rattle.gd_item.specs.Records.{records_of}
+use Rattle.od_keeper.specs.Sound.{uncounted, IsAccepted, IsPulled, TokenIs, ItemsAre, IsSound}
 use Rattle.od_keeper.specs.declared.image.Agreed.{Agreed}
 use Rattle.od_keeper.specs.declared.image.Agreed.TheVariants as agreed
 use Rattle.od_keeper.specs.declared.image.BaseRow.{BaseRow}
@@ -126,7 +127,7 @@ pulled-stays items token log more is = record {
   epoch = (let grown : Grows (state_of log) (state_of (log ++ more)) = grows log more in omega arith);
   start = is.start;
   position = omega (arith, number-stays log more);
-  items_then = is.items_then ∙ ap (λ (held : Inventory). map uncounted (records held)) (sym (held-stays log more token.position is.position));
+  items_then = is.items_then ∙ ap (λ (held : Inventory). map uncounted (records_of held)) (sym (held-stays log more token.position is.position));
 }
 
 token-stays : (items : List Item) (log more : List Step) (token : Option Token) → TokenIs items log token → TokenIs items (log ++ more) token

@@ -2,9 +2,8 @@
 -- of bytes that the drive accepted, and the items are those of the drive at the token's position.
 use Rattle.std.specs.Prelude.{◌≡◌, ℕ, ◌≤◌, Bool, List, [], ◌∷◌, map, Option, Some, None}
 use Rattle.std.specs.List.{All, Any}
-use Rattle.sha2.specs.Sha256.{sha256}
 use Rattle.gd_item.specs.Inventory.{Inventory}
-use Rattle.gd_item.specs.Records.{root_record, record_of, digest_record}
+use Rattle.gd_item.specs.Records.{records_of, digest_record}
 use Rattle.gd_item.specs.Steps.{state_of, number_of, held_at, accepted_by}
 use Rattle.gd_item.specs.Tokens.{token_of_text}
 use Rattle.gd_item.specs.declared.item.Item.{Item}
@@ -27,10 +26,6 @@ uncounted_kind Deleted = Deleted
 abbrev pub uncounted : Item → Item
 uncounted item = record item { kind = uncounted_kind item.kind }
 
--- the records of all that a drive holds, the root's first
-abbrev pub records : Inventory → List Item
-records held = root_record held.items ∷ map (record_of held.items) held.items
-
 -- what was agreed on is the digest of accepted bytes, where it is a file
 abbrev pub IsAccepted : List Version → Agreed → Type 0
 IsAccepted versions agreed.Nothing = Unit
@@ -42,7 +37,7 @@ pub record IsPulled (items : List Item) (token : Token) (log : List Step) : Type
   pub epoch : token.epoch ≤ (state_of log).epoch
   pub start : token.start ≤ token.position
   pub position : token.position ≤ number_of log
-  pub items_then : map uncounted items ≡ map uncounted (records (held_at token.position log))
+  pub items_then : map uncounted items ≡ map uncounted (records_of (held_at token.position log))
 
 abbrev pub TokenIs : List Item → List Step → Option Token → Type 0
 TokenIs items log None = ⊥

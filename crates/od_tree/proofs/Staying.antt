@@ -1,5 +1,5 @@
 -- A file that stems from a write stays somewhere, but for the steps that can take one away.
-use Rattle.std.proofs.Common.{◌≡◌, ◌⊎◌, inl, inr, ℕ, ◌+◌, Bool, true, false, not, ◌||◌, cond, nat_eq, is_none, List, [], ◌∷◌, ◌++◌, length, map, Option, Some, None, refl, ap, sym, ◌∙◌, subst, ⊎_elim}
+use Rattle.std.proofs.Common.{◌≡◌, ◌⊎◌, inl, inr, ℕ, ◌+◌, Bool, true, false, not, ◌||◌, cond, nat_eq, is_none, List, [], ◌∷◌, ◌++◌, length, map, Option, Some, None, refl, ap, sym, ◌∙◌, subst, ⊎_elim, ◌-◌, ◌^◌}
 use Rattle.std.specs.List.{list_any}
 use Rattle.std.proofs.lemmas.Bool.{eqb-true}
 use Rattle.std.proofs.lemmas.List.Folds.{list_any-append}
@@ -134,12 +134,14 @@ aside n at local None same is = is
 aside n at local (Some file) same is =
     let last : HeldFile = record { number = greatest_number local.held + 1; from = at; file = file } in
     let after : Local = record { spots = without_spot at local.spots; held = local.held ++ last ∷ [] } in
+    let carried : is_somewhere n after ≡ true =
     ⊎_elim
     (λ here.
     ⊎_elim (λ kept. at_path n after kept)
     (λ gone. in_holding n after (any-last (λ (f : HeldFile). is_origin n f.file.origin) local.held last (subst (λ f. stems_from n f ≡ true) (sym same) gone)))
     (any-without n at local.spots here))
-    (λ held. in_holding n after (any-front (λ (f : HeldFile). is_origin n f.file.origin) local.held (last ∷ []) held)) (somewhere n local is)
+    (λ held. in_holding n after (any-front (λ (f : HeldFile). is_origin n f.file.origin) local.held (last ∷ []) held)) (somewhere n local is) in
+    elim (nat_eq (greatest_number local.held) (2 ^ 64 - 1)) as (λ b. is_somewhere n (cond b local after) ≡ true) [ true ↦ is | false ↦ carried ]
 
 back : (n : ℕ) (to : List (List ℕ)) (number : ℕ) (local : Local) (found : Option HeldFile) → held_at number local.held ≡ found → is_somewhere n local ≡ true → is_somewhere n (put_back to local found) ≡ true
 back n to number local None same is = is

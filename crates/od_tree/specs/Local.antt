@@ -1,6 +1,6 @@
 -- What stands in a local folder and in its holding folder is read off a log of user edits and of operations of the
 -- client. Each file has the user's write from which it stems, which it keeps wherever it is carried.
-use Rattle.std.specs.Prelude.{ℕ, zero, suc, ◌+◌, Bool, true, false, not, ◌&&◌, ◌||◌, cond, List, [], ◌∷◌, ◌++◌, length, map, filter, drop, find, is_some, is_none, nat_eq, max, Option, Some, None}
+use Rattle.std.specs.Prelude.{ℕ, zero, suc, ◌+◌, ◌-◌, ◌^◌, Bool, true, false, not, ◌&&◌, ◌||◌, cond, List, [], ◌∷◌, ◌++◌, length, map, filter, drop, find, is_some, is_none, nat_eq, max, Option, Some, None}
 use Rattle.std.specs.List.{list_any, starts_with}
 use Rattle.std.specs.Option.{option_map}
 use Rattle.std.specs.Cmp.Lexicographic.{pointwise}
@@ -58,8 +58,9 @@ is_folder_at (name ∷ path) spots = is_folder_spot (spot_at (name ∷ path) spo
 abbrev pub has_parent : List (List ℕ) → List Spot → Bool
 has_parent path spots = is_folder_at (names_above path) spots
 
+-- whether the root or an entry stands at a path
 abbrev pub is_taken_at : List (List ℕ) → List Spot → Bool
-is_taken_at path spots = is_some (spot_at path spots)
+is_taken_at path spots = is_path [] path || is_some (spot_at path spots)
 
 -- the held file of a number, and the greatest number held
 abbrev pub held_at : ℕ → List HeldFile → Option HeldFile
@@ -100,7 +101,7 @@ may_move from to spots =
 
 abbrev pub has_place : Local → UserEdit → Bool
 has_place local (Write at bytes) = not (is_path [] at) && has_parent at local.spots && not (is_folder_at at local.spots)
-has_place local (Remove at) = is_taken_at at local.spots
+has_place local (Remove at) = not (is_path [] at) && is_taken_at at local.spots
 has_place local (Move from to) = may_move from to local.spots
 has_place local (MakeFolder at) = not (is_path [] at) && has_parent at local.spots && not (is_taken_at at local.spots)
 
@@ -141,13 +142,15 @@ op_refusal local (op.PutBack aside to) =
 op_refusal local (op.Discard aside) = first_cause ((is_none (held_at aside local.held), Missing) ∷ [])
 op_refusal local op.Asides = None
 
--- the folder with a file in holding, and with a held file at a path
+-- the folder with a file in holding, unless no number is left, and with a held file at a path
 abbrev pub set_aside : List (List ℕ) → Local → Option LocalFile → Local
 set_aside at local None = local
-set_aside at local (Some file) = record {
-  spots = without_spot at local.spots;
-  held = local.held ++ record { number = greatest_number local.held + 1; from = at; file = file } ∷ [];
-}
+set_aside at local (Some file) =
+    cond (nat_eq (greatest_number local.held) (2 ^ 64 - 1)) local
+    (record {
+      spots = without_spot at local.spots;
+      held = local.held ++ record { number = greatest_number local.held + 1; from = at; file = file } ∷ [];
+    })
 
 abbrev pub put_back : List (List ℕ) → Local → Option HeldFile → Local
 put_back to local None = local

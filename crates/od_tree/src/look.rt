@@ -36,11 +36,11 @@ pub fn file_at<'a>(spots: &'a [Spot], names: &[Text]) -> Option<&'a LocalFile>
     }
 }
 
-/// Whether an entry stands at a path.
+/// Whether the root or an entry stands at a path.
 pub fn is_taken_at(spots: &[Spot], names: &[Text]) -> bool
     ensures { result ≡ is_taken_at names.now spots.now }
 {
-    spot_at(spots, names).is_some()
+    names.is_empty() || spot_at(spots, names).is_some()
 }
 
 /// Whether the root or a folder stands at a path.
@@ -86,7 +86,7 @@ pub fn has_place(spots: &[Spot], edit: &UserEdit) -> bool
 {
     match edit {
         UserEdit::Write(at, _) => may_write(spots, at.names()),
-        UserEdit::Remove(at) => is_taken_at(spots, at.names()),
+        UserEdit::Remove(at) => may_remove(spots, at.names()),
         UserEdit::Move(from, to) => may_move(spots, from.names(), to.names()),
         UserEdit::MakeFolder(at) => may_add(spots, at.names()),
     }
@@ -112,6 +112,13 @@ fn may_move(spots: &[Spot], from: &[Text], to: &[Text]) -> bool
         && !is_from(from, to)
         && !to.is_empty()
         && is_free_for(spots, from, to)
+}
+
+/// Whether a path has an entry that can be removed.
+fn may_remove(spots: &[Spot], at: &[Text]) -> bool
+    ensures { result ≡ (not (is_path [] at.now) && is_taken_at at.now spots.now) }
+{
+    !at.is_empty() && is_taken_at(spots, at)
 }
 
 /// Whether nothing stands at the second path, or a file does at both.
