@@ -1,7 +1,10 @@
 -- Some short logs of drives, and what of a reply tells it from others.
-use Rattle.std.specs.Prelude.{ℕ, true, false, List, [], ◌∷◌, ◌++◌, map, replicate, codes, Option, Some, None}
+use Rattle.std.specs.Prelude.{ℕ, zero, suc, true, false, List, [], ◌∷◌, ◌++◌, length, map, replicate, codes, Option, Some, None}
 use Rattle.gd_names.specs.declared.conflict.Conflict.TheVariants.{Fail, Replace}
+use Rattle.std.specs.Fmt.{decimal}
 use Rattle.gd_item.specs.Ids.{item_id}
+use Rattle.gd_item.specs.Inventory.{Effect, PutNew}
+use Rattle.gd_item.specs.Sessions.{State, new_state}
 use Rattle.gd_item.specs.declared.condition.Condition.{Condition}
 use Rattle.gd_item.specs.declared.condition.Condition.TheVariants.{Free}
 use Rattle.gd_item.specs.declared.item.Item.{Item}
@@ -173,3 +176,16 @@ status_of_reply (reply.More expected) = 202
 status_of_reply (reply.Page page) = 200
 status_of_reply (reply.Gone resync) = 410
 status_of_reply (reply.Refused status code) = status
+
+-- what a drive has come to that has so many files in its root
+abbrev pub files_put : ℕ → List Effect
+files_put zero = []
+files_put (suc n) = PutNew 1 (decimal n) [] ∷ files_put n
+
+abbrev pub many_files : ℕ → State
+many_files n = record new_state { effects = files_put n }
+
+-- how many records a page has
+abbrev pub records_in : Reply → ℕ
+records_in (reply.Page page) = length page.items
+records_in r = 0

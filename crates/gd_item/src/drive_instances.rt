@@ -1,7 +1,7 @@
 //! Instances of the drive's log and of its answers, each the contract of a function that does nothing.
 ghost use Rattle.std.specs.Prelude.{◌≡◌, [], ◌∷◌, ◌++◌, codes, Some, None};
-ghost use Rattle.gd_item.specs.Answers.{answer_of, refused};
-ghost use Rattle.gd_item.specs.DriveLogs.{put_at, put_new, rename_at, remove_at, other, moved_folder_log, two_files_log, renamed_log, three_files_log, expired_log, floor_log, folder_log, nested_log, one_folder_log, removed_file_log, restored_log, letters_log, unlucky_log, named_by, next_of, link_of, status_of_reply};
+ghost use Rattle.gd_item.specs.Answers.{answer, answer_of, refused};
+ghost use Rattle.gd_item.specs.DriveLogs.{put_at, put_new, rename_at, remove_at, other, moved_folder_log, two_files_log, renamed_log, three_files_log, expired_log, floor_log, folder_log, nested_log, one_folder_log, removed_file_log, restored_log, letters_log, unlucky_log, named_by, next_of, link_of, many_files, records_in, status_of_reply};
 ghost use Rattle.gd_item.specs.Refused.{refuse, refusal};
 ghost use Rattle.gd_item.specs.Steps.{state_of, held_by, number_of};
 ghost use Rattle.gd_item.specs.Tokens.{token_text, token_of_text};
@@ -56,6 +56,16 @@ pub fn pages_full()
     ensures first_link { link_of (answer_of three_files_log 3 (Request.Delta None)) ≡ Some (PageLink.Next (codes "t1.3.4")) }
     ensures second { named_by (answer_of three_files_log 3 (Request.Delta (Some (codes "t1.3.4")))) ≡ (4, codes "c") ∷ [] }
     ensures second_link { link_of (answer_of three_files_log 3 (Request.Delta (Some (codes "t1.3.4")))) ≡ Some (PageLink.Delta (codes "t1.4.4")) }
+{}
+
+/// A page takes 200 records: those of 199 files and of the root, and of 200 files all but one.
+pub fn large_pages_full()
+    ensures one { records_in (answer (many_files 199) 200 (Request.Delta None)) ≡ 200 }
+    ensures one_link { link_of (answer (many_files 199) 200 (Request.Delta None)) ≡ Some (PageLink.Delta (codes "t1.200.200")) }
+    ensures first { records_in (answer (many_files 200) 200 (Request.Delta None)) ≡ 200 }
+    ensures first_link { link_of (answer (many_files 200) 200 (Request.Delta None)) ≡ Some (PageLink.Next (codes "t1.200.201")) }
+    ensures second { records_in (answer (many_files 200) 200 (Request.Delta (Some (codes "t1.200.201")))) ≡ 1 }
+    ensures second_link { link_of (answer (many_files 200) 200 (Request.Delta (Some (codes "t1.200.201")))) ≡ Some (PageLink.Delta (codes "t1.201.201")) }
 {}
 
 /// What tokens get at epoch 1, number 5 and floor 4.

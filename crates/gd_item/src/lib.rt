@@ -22,7 +22,7 @@ pub use condition::{Condition, matches};
 pub use digest::{Digest, digest_of};
 pub use drive_instances::{
     case_changed, children_listed, expired_token_gone, folder_deleted, folder_moved,
-    folder_renamed_and_removed, moved_between_pages, moves_refused, pages_full, puts_answered,
+    folder_renamed_and_removed, large_pages_full, moved_between_pages, moves_refused, pages_full, puts_answered,
     removed_between_pages, restored_token_gone, steps_unlucky, tokens_read, tokens_served,
 };
 pub use fault::{ErrorCode, SessionFault, StoreFault};
