@@ -2,5 +2,12 @@
 #![tactic(auto)]
 
 mod drive;
+mod feed;
+mod reads;
+mod steps;
+mod target;
 
 pub use drive::Drive;
+
+#[cfg(test)]
+mod tests;

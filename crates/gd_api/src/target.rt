@@ -1,0 +1,67 @@
+ghost use Rattle.std.specs.Prelude.{◌≡◌, List, IfOk};
+ghost use Rattle.std.specs.Option.{option_map};
+ghost use Rattle.gd_item.specs.Ids.{item_id};
+ghost use Rattle.gd_item.specs.Inventory.{Effect, inventory};
+ghost use Rattle.gd_item.specs.Places.{names_above, last_name};
+ghost use Rattle.gd_item.specs.Targets.{target_of, place_of, place_at};
+ghost use Rattle.gd_store.specs.Stands.{Stands};
+
+use gd_item::{Address, ItemId, Place};
+use gd_names::{List, NoMemory, Path, Text};
+use gd_store::Store;
+use std::alloc::Global;
+
+/// The id that an address names; an address by id may name no item. Takes no memory.
+pub fn find_target(store: &Store, at: &Address) -> Option<ItemId>
+    ensures { (log : List Effect) → Stands store.now log → result ≡ option_map item_id (target_of (inventory log) at.now) }
+{
+    match at {
+        Address::Id(id) => Some(*id),
+        Address::ByPath(path) => store.by_path(path),
+        Address::Child(id, name) => store.child(*id, name),
+    }
+}
+
+/// The path above the last name of a path, and that name. The root's are the root and an empty name.
+fn split_last(alloc: Global, path: &Path) -> Result<(Path, Text), NoMemory>
+    ensures { IfOk result (λ parts. (parts.0 ≡ names_above path.now) × (parts.1 ≡ last_name path.now)) }
+{
+    let mut above = List::new(alloc);
+    let mut names = path.names();
+    while let [name, rest @ ..] = names {
+        if rest.is_empty() {
+            return Ok((Path::from_names(above), name.clone()?));
+        }
+        above.push(name.clone()?)?;
+        names = rest;
+    }
+    Ok((Path::from_names(above), Text::from_str(alloc, "")?))
+}
+
+/// Where an address by path puts a file.
+fn find_place_at(alloc: Global, store: &Store, path: &Path) -> Result<Option<Place>, NoMemory>
+    ensures { IfOk result (λ place. (log : List Effect) → Stands store.now log → place ≡ place_at (inventory log) path.now) }
+{
+    if path.names().is_empty() {
+        return Ok(Some(Place::Over(ItemId(1))));
+    }
+    let (above, name) = split_last(alloc, path)?;
+    match store.by_path(&above) {
+        Some(parent) => Ok(Some(Place::Under(parent, name))),
+        None => Ok(None),
+    }
+}
+
+/// Where an address puts a file, if the folder above it is there.
+pub fn find_place(alloc: Global, store: &Store, at: &Address) -> Result<Option<Place>, NoMemory>
+    ensures { IfOk result (λ place. (log : List Effect) → Stands store.now log → place ≡ place_of (inventory log) at.now) }
+{
+    match at {
+        Address::Id(id) => Ok(Some(Place::Over(*id))),
+        Address::ByPath(path) => find_place_at(alloc, store, path),
+        Address::Child(id, name) => {
+            let name = name.clone()?;
+            Ok(Some(Place::Under(*id, name)))
+        }
+    }
+}
