@@ -2,12 +2,11 @@ ghost use Rattle.std.specs.Prelude.{◌≡◌, List, IfOk};
 ghost use Rattle.std.specs.Option.{option_map};
 ghost use Rattle.gd_item.specs.Ids.{item_id};
 ghost use Rattle.gd_item.specs.Inventory.{Effect, inventory};
-ghost use Rattle.gd_item.specs.Places.{names_above, last_name};
 ghost use Rattle.gd_item.specs.Targets.{target_of, place_of, place_at};
 ghost use Rattle.gd_store.specs.Stands.{Stands};
 
-use gd_item::{Address, ItemId, Place};
-use gd_names::{List, NoMemory, Path, Text};
+use gd_item::{Address, ItemId, Place, split_last};
+use gd_names::{NoMemory, Path};
 use gd_store::Store;
 use std::alloc::Global;
 
@@ -20,22 +19,6 @@ pub fn find_target(store: &Store, at: &Address) -> Option<ItemId>
         Address::ByPath(path) => store.by_path(path),
         Address::Child(id, name) => store.child(*id, name),
     }
-}
-
-/// The path above the last name of a path, and that name. The root's are the root and an empty name.
-fn split_last(alloc: Global, path: &Path) -> Result<(Path, Text), NoMemory>
-    ensures { IfOk result (λ parts. (parts.0 ≡ names_above path.now) × (parts.1 ≡ last_name path.now)) }
-{
-    let mut above = List::new(alloc);
-    let mut names = path.names();
-    while let [name, rest @ ..] = names {
-        if rest.is_empty() {
-            return Ok((Path::from_names(above), name.clone()?));
-        }
-        above.push(name.clone()?)?;
-        names = rest;
-    }
-    Ok((Path::from_names(above), Text::from_str(alloc, "")?))
 }
 
 /// Where an address by path puts a file.

@@ -11,6 +11,7 @@ mod item;
 mod laws;
 mod live;
 mod log_laws;
+mod parts;
 mod reply;
 mod request;
 mod session_instances;
@@ -22,8 +23,9 @@ pub use condition::{Condition, matches};
 pub use digest::{Digest, digest_of};
 pub use drive_instances::{
     case_changed, children_listed, expired_token_gone, folder_deleted, folder_moved,
-    folder_renamed_and_removed, large_pages_full, moved_between_pages, moves_refused, pages_full, puts_answered,
-    removed_between_pages, restored_token_gone, steps_unlucky, tokens_read, tokens_served,
+    folder_renamed_and_removed, large_pages_full, moved_between_pages, moves_refused, pages_full,
+    puts_answered, removed_between_pages, restored_token_gone, steps_unlucky, tokens_read,
+    tokens_served,
 };
 pub use fault::{ErrorCode, SessionFault, StoreFault};
 pub use id::ItemId;
@@ -36,6 +38,7 @@ pub use log_laws::{
     kept_bytes_are_those_of_versions, numbers_never_fall, pages_give_each_change_once,
     session_bytes_are_those_received,
 };
+pub use parts::split_last;
 pub use reply::{Page, PageLink, Reply, Resync};
 pub use request::{Address, Request, RequestKind};
 pub use session_instances::{

@@ -48,8 +48,8 @@ as-defined state size (CancelSession session) h = refl
 as-defined state size (Delta token) h = absurd cc
 
 module _ (before after : DriveValue) (old new : List ℕ) (request : Request) (reply : Reply) (change : is_change request ≡ true)
-  (handled : (log : List Step) → Stands before log → is_about_session request ≡ false → Handles before after log request reply (answer_now (state_of log) before.size request))
-  (served : reply ≢ unserved) (printed : new ≡ old ++ reply_text reply) (size : after.size ≡ before.size) where
+    (handled : (log : List Step) → Stands before log → is_about_session request ≡ false → Handles before after log request reply (answer_now (state_of log) before.size request))
+    (served : reply ≢ unserved) (printed : new ≡ old ++ reply_text reply) (size : after.size ≡ before.size) where
   by-cases : (log : List Step) → ((reply ≡ answer_now (state_of log) before.size request) × ((who : Who) (heard : Bool) → Stands after (log ++ Ask who request true heard ∷ [])))
       ⊎ ((reply ≡ unserved) × (after ≡ before) × ((who : Who) (heard : Bool) → Stands after (log ++ Ask who request false heard ∷ [])))
       → Stands after (with_other log request) × (new ≡ old ++ reply_text (answer (state_of log) before.size request))

@@ -111,7 +111,7 @@ page-by before after log r page is (inl found) = (ap page-items (sym is ∙ foun
 page-by before after log r page is (inr none) = let odd : reply.Page page ≡ unserved = sym is ∙ none.0 in absurd cc
 
 module _ (before after : DriveValue) (r : Reply) (page : Page) (is : r ≡ reply.Page page)
-  (handled : (log : List Step) → Stands before log → is_about_session (Delta None) ≡ false → Handles before after log (Delta None) r (answer_now (state_of log) before.size (Delta None))) where
+    (handled : (log : List Step) → Stands before log → is_about_session (Delta None) ≡ false → Handles before after log (Delta None) r (answer_now (state_of log) before.size (Delta None))) where
   found : (log : List Step) → Stands before log → (page.items ≡ whole_items (held_by log)) × (taken_of page.link ≡ Last) × Stands after (with_other log (Delta None))
   found log stands = page-by before after log r page is (handled log stands refl).answered
 

@@ -37,11 +37,12 @@ differs a b lt = grind (arith, nat_tests)
 -- the item of a number is the one that has it
 own : (items : List LiveItem) → AllPairs (λ (x y : LiveItem). x.number < y.number) items → AllByRecursion (λ (item : LiveItem). live_at item.number items ≡ Some item) items
 own [] pairs = tt
-own (item ∷ items) pairs =
-    (ap (λ b. cond b (Some item) (live_at item.number items)) (eq-eqb item.number item.number refl),
-    each-both (λ (y : LiveItem). item.number < y.number) (λ (y : LiveItem). live_at y.number items ≡ Some y) (λ (y : LiveItem). live_at y.number (item ∷ items) ≡ Some y)
-    (λ y lt is. ap (λ b. cond b (Some item) (live_at y.number items)) (differs item.number y.number lt) ∙ is) items
-    (each-later (λ (x y : LiveItem). x.number < y.number) item items pairs) (own items (AllPairs-tail (λ (x y : LiveItem). x.number < y.number) item items pairs)))
+own (item ∷ items) pairs = (
+  ap (λ b. cond b (Some item) (live_at item.number items)) (eq-eqb item.number item.number refl),
+  each-both (λ (y : LiveItem). item.number < y.number) (λ (y : LiveItem). live_at y.number items ≡ Some y) (λ (y : LiveItem). live_at y.number (item ∷ items) ≡ Some y)
+      (λ y lt is. ap (λ b. cond b (Some item) (live_at y.number items)) (differs item.number y.number lt) ∙ is) items
+      (each-later (λ (x y : LiveItem). x.number < y.number) item items pairs) (own items (AllPairs-tail (λ (x y : LiveItem). x.number < y.number) item items pairs)),
+)
 
 -- what is shown of an item
 abbrev pub shown : Inventory → LiveItem → Option (List ℕ)

@@ -1,7 +1,6 @@
 //! The commands of the client: what `odsync replay` does.
 #![tactic(auto)]
 
-mod address;
 mod fault;
 mod line;
 mod lines;

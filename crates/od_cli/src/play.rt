@@ -3,12 +3,11 @@ ghost use Rattle.gd_item.specs.Answers.{unserved};
 ghost use Rattle.od_cli.specs.Played.{content_bytes, played, reply_text};
 ghost use Rattle.od_cli.specs.Plays.{IsAsked, IsDrive, Plays, is_change};
 
-use crate::address::split_last;
 use crate::line::{Content, Line};
 use crate::print::print_refusal;
 use crate::pull::{print_drive, print_pull};
 use gd_api::Drive;
-use gd_item::{Address, Condition, ErrorCode, Reply, Request};
+use gd_item::{Address, Condition, ErrorCode, Reply, Request, split_last};
 use gd_names::{Bytes, Conflict, NoMemory, Path};
 use std::alloc::Global;
 
@@ -45,12 +44,7 @@ fn print_reply(alloc: Global, out: &mut Bytes, reply: &Reply) -> Result<(), NoMe
 }
 
 /// Another client asks the drive, and its refusal is printed.
-fn ask(
-    alloc: Global,
-    drive: &mut Drive,
-    out: &mut Bytes,
-    request: &Request,
-) -> Result<(), NoMemory>
+fn ask(alloc: Global, drive: &mut Drive, out: &mut Bytes, request: &Request) -> Result<(), NoMemory>
     requires { is_change request.now ≡ true }
     ensures { OnOk result (IsAsked drive.old drive.new out.old out.new request.now) }
 {
@@ -127,12 +121,7 @@ fn move_item(
 }
 
 /// Another client removes what stands at a path.
-fn remove(
-    alloc: Global,
-    drive: &mut Drive,
-    out: &mut Bytes,
-    path: &Path,
-) -> Result<(), NoMemory>
+fn remove(alloc: Global, drive: &mut Drive, out: &mut Bytes, path: &Path) -> Result<(), NoMemory>
     requires { IsDrive drive.old }
     ensures { OnOk result (Plays drive.old drive.new out.old out.new (Line.OtherRemove path.now)) }
 {

@@ -32,12 +32,7 @@ pub fn print_refusal(
 }
 
 /// A word and a number: the first line of a pull, and that of `drive`.
-pub fn print_number(
-    alloc: Global,
-    out: &mut Bytes,
-    word: &str,
-    number: u64,
-) -> Result<(), NoMemory>
+pub fn print_number(alloc: Global, out: &mut Bytes, word: &str, number: u64) -> Result<(), NoMemory>
     ensures { OnOk result (out.new ≡ out.old ++ (word.now ++ codes " " ++ decimal number ++ codes "\n")) }
 {
     let text = format!(in alloc; "{word} {number}\n")?;

@@ -67,8 +67,15 @@ fn bad_lines(rt: HostRuntime) {
 #[test]
 fn puts(rt: HostRuntime) -> Result<(), Fail> {
     let alloc = rt.alloc();
-    let lines = read_script(alloc, b"other put /a%20b.txt \"hi there\"\nother put /c fill 70000000 aF")?;
-    let [Line::OtherPut(path, Content::Text(text)), Line::OtherPut(_, Content::Fill(count, byte))] = lines.as_slice() else {
+    let lines = read_script(
+        alloc,
+        b"other put /a%20b.txt \"hi there\"\nother put /c fill 70000000 aF",
+    )?;
+    let [
+        Line::OtherPut(path, Content::Text(text)),
+        Line::OtherPut(_, Content::Fill(count, byte)),
+    ] = lines.as_slice()
+    else {
         assert!(rt; false, "two puts");
         return Ok(());
     };
