@@ -1,5 +1,5 @@
 -- A step that gives a record, and undoing a step for whose record memory is wanting.
-use Rattle.std.proofs.Common.{◌≡◌, ℕ, ◌+◌, Bool, true, false, cond, nat_eq, List, [], ◌∷◌, ◌++◌, Option, Some, None, Result, Ok, Err, refl, sym, ap, ◌∙◌, subst}
+use Rattle.std.proofs.Common.{◌≡◌, ℕ, ◌+◌, suc, length, Bool, true, false, cond, nat_eq, List, [], ◌∷◌, ◌++◌, Option, Some, None, Result, Ok, Err, refl, sym, ap, ◌∙◌, subst}
 use Rattle.std.specs.Option.{option_to_list}
 use Rattle.gd_item.specs.Inventory.{Inventory, Effect, Moved, after, inventory, changed, live_at, with_bytes, with_place, version_in, version_of}
 use Rattle.gd_item.specs.Moves.{parent_of, name_of}
@@ -7,6 +7,7 @@ use Rattle.gd_item.specs.Refusals.{is_made}
 use Rattle.gd_item.specs.declared.fault.StoreFault.{StoreFault}
 use Rattle.gd_item.specs.declared.item.Item.{Item}
 use Rattle.gd_item.specs.declared.live.LiveItem.{LiveItem}
+use Rattle.gd_item.specs.declared.live.Tombstone.{Tombstone}
 use Rattle.gd_item.specs.declared.live.Version.{Version}
 use Rattle.gd_store.specs.Changed.{moved_back, change_of, content_of, version_bytes, with_version}
 use Rattle.gd_store.specs.Stands.{Stands, Answers, record_after}
@@ -92,3 +93,31 @@ pub put-undone : (number change : ℕ) (bytes : List ℕ) (version : Option Vers
 put-undone number change bytes version items is =
     undone number (with_bytes change bytes) (λ found. with_version (change_of found) (content_of found) version) (λ item. refl) items
     (λ item found. ap (λ (old : Option (List ℕ)). record item { bytes = old }) (stood-bytes item item.bytes version (is ∙ ap version_of (sym found))))
+
+pub put-back-fields : (held : Inventory) (number drive given kept change content to : ℕ) (bytes : List ℕ) (version : Option Version) (removed : List Tombstone) (stood replaced : List Version)
+    (items first second written before after back : List LiveItem) → record { number = drive; next = given; items = items; removed = removed; replaced = stood; kept = kept } ≡ held → replaced ≡ stood
+    → first ≡ items → change ≡ change_of (live_at number first) → second ≡ items → content ≡ content_of (live_at number second)
+    → before ≡ items → written ≡ changed number (with_bytes to bytes) before → option_to_list version ≡ version_of (live_at number before)
+    → after ≡ written → back ≡ changed number (with_version change content version) after
+    → record { number = drive; next = given; items = back; removed = removed; replaced = replaced; kept = kept } ≡ held
+put-back-fields held number drive given kept change content to bytes version removed stood replaced items first second written before after back view-is same-replaced
+    first-is change-is second-is content-is before-is written-is version-is after-is back-is =
+    let found : Option LiveItem = live_at number items in
+    let change-same : change ≡ change_of found = change-is ∙ ap (λ xs. change_of (live_at number xs)) first-is in
+    let content-same : content ≡ content_of found = content-is ∙ ap (λ xs. content_of (live_at number xs)) second-is in
+    let version-same : option_to_list version ≡ version_of found = version-is ∙ ap (λ xs. version_of (live_at number xs)) before-is in
+    let after-same : after ≡ changed number (with_bytes to bytes) items = after-is ∙ written-is ∙ ap (changed number (with_bytes to bytes)) before-is in
+    let back-same : back ≡ items =
+    back-is ∙ ap (λ xs. changed number (with_version change content version) xs) after-same
+    ∙ ap (λ n. changed number (with_version n content version) (changed number (with_bytes to bytes) items)) change-same
+    ∙ ap (λ n. changed number (with_version (change_of found) n version) (changed number (with_bytes to bytes) items)) content-same
+    ∙ put-undone number to bytes version items version-same in
+    let P : List LiveItem → List Version → Inventory = λ xs vs. record { number = drive; next = given; items = xs; removed = removed; replaced = vs; kept = kept } in
+    ap (λ xs. P xs replaced) back-same ∙ ap (λ vs. P items vs) same-replaced ∙ view-is
+
+-- a change keeps how many items there are
+pub changed-long : (number : ℕ) (f : LiveItem → LiveItem) (items : List LiveItem) → length (changed number f items) ≡ length items
+changed-long number f [] = refl
+changed-long number f (x ∷ items) =
+    elim (nat_eq x.number number) as (λ b. length (cond b (f x ∷ items) (x ∷ changed number f items)) ≡ length (x ∷ items))
+    [ true ↦ refl | false ↦ ap (λ n. suc n) (changed-long number f items) ]
