@@ -104,14 +104,18 @@ over-room held number bytes condition others allowed =
     let e : is_over_quota held 0 (length bytes + others) ≡ false = (clear (is_over_quota held 0 (length bytes + others)) Quota None d.1).0 in
     has-room held 0 (length bytes + others) e
 
+over-light : (held : Inventory) (number : ℕ) (bytes : List ℕ) (condition : Condition) (others : ℕ) → None ≡ put_over_refusal held number bytes condition others → held.kept + length bytes ≤ 536870912
+over-light held number bytes condition others allowed =
+    let light : held.kept + (length bytes + others) ≤ 536870912 = (over-room held number bytes condition others allowed).light in
+    omega arith
+
 -- a file that is put over another
 pub put-over-sound : (old new : Inventory) (log : List Effect) (number : ℕ) (bytes : List ℕ) (condition : Condition) (others : ℕ) → Stands old log
     → None ≡ put_over_refusal old number bytes condition others → new ≡ after old (PutOver number bytes) → IsSound new
 put-over-sound old new log number bytes condition others stands allowed is =
     let a = clear _ _ _ allowed in
     let b = clear _ _ _ a.1 in
-    let light : old.kept + (length bytes + others) ≤ 536870912 = (over-room old number bytes condition others allowed).light in
-    subst IsSound (sym is) (record { map = sound-over old number bytes stands.sound (number-begun old log stands) b.0; light = omega arith })
+    subst IsSound (sym is) (record { map = sound-over old number bytes stands.sound (number-begun old log stands) b.0; light = over-light old number bytes condition others allowed })
 
 -- an item that is moved
 pub moved-sound : (old new : Inventory) (log : List Effect) (number : ℕ) (name : Option (List ℕ)) (parent : Option ℕ) (condition : Condition) → Stands old log → None ≡ patch_refusal old number name parent condition
