@@ -40,6 +40,26 @@ fn make(alloc: Global, store: &mut Store, parent: u64, name: &str) -> Result<u64
     Ok(id.0)
 }
 
+/// The numbers, the tags and the names of items in a row, and whether each is deleted.
+fn written(alloc: Global, items: &[Item]) -> Result<Text, Fail> {
+    let mut text = String::new(alloc);
+    for item in items {
+        let deleted = if item.kind == Kind::Deleted {
+            "deleted"
+        } else {
+            ""
+        };
+        let entry = format!(in alloc;
+            "{} {} {}{deleted}, ",
+            item.id.0,
+            item.etag.0.as_str(),
+            item.name.as_str()
+        )?;
+        text.push_str(entry.as_str())?;
+    }
+    Ok(Text::from_string(text))
+}
+
 fn sizes(alloc: Global, items: &[Item]) -> Result<Vec<u64>, Fail> {
     let mut sizes = Vec::new(alloc);
     for item in items {
@@ -150,21 +170,18 @@ fn versions(rt: HostRuntime) -> Result<(), Fail> {
 fn children_in_order(rt: HostRuntime) -> Result<(), Fail> {
     let alloc = rt.alloc();
     let mut store = Store::new(alloc)?;
-    let free = Condition::Free;
     for name in ["b", "C", "a"] {
-        assert!(rt; put(alloc, &mut store, 1, name, Conflict::Fail, &free)?.is_ok());
+        put(alloc, &mut store, 1, name, Conflict::Fail, &Condition::Free)??;
     }
     let (first, more) = store.children(ItemId(1), None, 2)?;
     assert_eq!(rt; more, true);
-    assert_eq!(rt; first.len(), 2);
-    let start = first.as_slice();
-    assert_eq!(rt; start[0].name, text(alloc, "a")?);
-    assert_eq!(rt; start[1].name, text(alloc, "b")?);
-    assert_eq!(rt; start[1].parent_path, Some(text(alloc, "/drive/root:")?));
+    assert_eq!(rt;
+        written(alloc, first.as_slice())?,
+        text(alloc, "4 e4 a, 2 e2 b, ")?
+    );
     let (rest, more) = store.children(ItemId(1), Some(&text(alloc, "B")?), 2)?;
     assert_eq!(rt; more, false);
-    assert_eq!(rt; rest.len(), 1);
-    assert_eq!(rt; rest.as_slice()[0].name, text(alloc, "C")?);
+    assert_eq!(rt; written(alloc, rest.as_slice())?, text(alloc, "3 e3 C, ")?);
     assert!(rt; store.children(ItemId(2), None, 2).is_err());
     Ok(())
 }
@@ -241,7 +258,7 @@ fn kept_bytes_have_a_limit(rt: HostRuntime) -> Result<(), Fail> {
 }
 
 #[test]
-fn moves_and_removals(rt: HostRuntime) -> Result<(), Fail> {
+fn removals(rt: HostRuntime) -> Result<(), Fail> {
     let alloc = rt.alloc();
     let mut store = Store::new(alloc)?;
     let free = Condition::Free;
@@ -253,46 +270,31 @@ fn moves_and_removals(rt: HostRuntime) -> Result<(), Fail> {
     store.remove(ItemId(2), &free)?;
     let (changes, more) = store.changed_after(3, 0, 9)?;
     assert_eq!(rt; more, None);
-    assert_eq!(rt; changes.len(), 2);
-    let gone = changes.as_slice();
-    assert_eq!(rt; gone[0].id, ItemId(3));
-    assert_eq!(rt; gone[0].etag.0, text(alloc, "e4")?);
-    assert_eq!(rt; gone[0].kind, Kind::Deleted);
-    assert_eq!(rt; gone[1].id, ItemId(2));
-    assert_eq!(rt; gone[1].etag.0, text(alloc, "e5")?);
-    assert_eq!(rt; store.changed_after(3, 4, 9)?.0.len(), 1);
     assert_eq!(rt;
-        put(alloc, &mut store, 1, "f", Conflict::Fail, &free)?,
-        Ok((ItemId(4), true))
+        written(alloc, changes.as_slice())?,
+        text(alloc, "3 e4 deleted, 2 e5 deleted, ")?
     );
-    store.patch(ItemId(4), Some(&text(alloc, "F")?), None, &free)?;
-    assert_eq!(rt; store.get(ItemId(4), false)?.name, text(alloc, "F")?);
-    assert_eq!(rt; make(alloc, &mut store, 1, "e")?, 5);
-    store.patch(ItemId(4), None, Some(ItemId(5)), &free)?;
-    assert_eq!(rt; store.by_path(&path(alloc, "/e/f")?), Some(ItemId(4)));
-    assert_eq!(rt; store.child(ItemId(5), &text(alloc, "f")?), Some(ItemId(4)));
-    assert_eq!(rt; store.number(), 9);
+    assert_eq!(rt; store.changed_after(3, 4, 9)?.0.len(), 1);
     Ok(())
 }
 
-/// What a row of the table below wants: an item, a new name or none (`""`), a new folder or none (0), and a condition
-/// or none (`""`).
-struct Row<'a> {
-    id: u64,
-    name: &'a str,
-    parent: u64,
-    condition: &'a str,
-    fault: StoreFault,
-}
-
-fn row<'a>(id: u64, name: &'a str, parent: u64, condition: &'a str, fault: StoreFault) -> Row<'a> {
-    Row {
-        id,
-        name,
-        parent,
-        condition,
-        fault,
-    }
+#[test]
+fn moves(rt: HostRuntime) -> Result<(), Fail> {
+    let alloc = rt.alloc();
+    let mut store = Store::new(alloc)?;
+    let free = Condition::Free;
+    assert_eq!(rt;
+        put(alloc, &mut store, 1, "f", Conflict::Fail, &free)?,
+        Ok((ItemId(2), true))
+    );
+    store.patch(ItemId(2), Some(&text(alloc, "F")?), None, &free)?;
+    assert_eq!(rt; store.get(ItemId(2), false)?.name, text(alloc, "F")?);
+    assert_eq!(rt; make(alloc, &mut store, 1, "e")?, 3);
+    store.patch(ItemId(2), None, Some(ItemId(3)), &free)?;
+    assert_eq!(rt; store.by_path(&path(alloc, "/e/f")?), Some(ItemId(2)));
+    assert_eq!(rt; store.child(ItemId(3), &text(alloc, "f")?), Some(ItemId(2)));
+    assert_eq!(rt; store.number(), 5);
+    Ok(())
 }
 
 fn condition(alloc: Global, tag: &str) -> Result<Condition, Fail> {
@@ -303,21 +305,28 @@ fn condition(alloc: Global, tag: &str) -> Result<Condition, Fail> {
     }
 }
 
-/// The fault of a row's move.
-fn fault_of(alloc: Global, store: &mut Store, row: &Row<'_>) -> Result<Option<StoreFault>, Fail> {
-    let condition = condition(alloc, row.condition)?;
-    let name = text(alloc, row.name)?;
-    let name = if row.name.is_empty() {
+/// Why an item is not moved, by a new name or none (`""`), a new folder or none (0), and a condition or none (`""`).
+fn fault_of(
+    alloc: Global,
+    store: &mut Store,
+    id: u64,
+    name: &str,
+    parent: u64,
+    tag: &str,
+) -> Result<Option<StoreFault>, Fail> {
+    let condition = condition(alloc, tag)?;
+    let new_name = text(alloc, name)?;
+    let new_name = if name.is_empty() {
         None
     } else {
-        Some(&name)
+        Some(&new_name)
     };
-    let parent = if row.parent == 0 {
+    let parent = if parent == 0 {
         None
     } else {
-        Some(ItemId(row.parent))
+        Some(ItemId(parent))
     };
-    Ok(store.patch(ItemId(row.id), name, parent, &condition).err())
+    Ok(store.patch(ItemId(id), new_name, parent, &condition).err())
 }
 
 /// Folders 2 `/a`, 3 `/a/b`, 4 `/a/b/a`, 6 of 250 letters and 7 `/h`, files 5 `/f`, 8 of 200 letters in 7, and 9 `h`
@@ -341,48 +350,76 @@ fn filled(alloc: Global) -> Result<Store, Fail> {
 fn refused_moves(rt: HostRuntime) -> Result<(), Fail> {
     let alloc = rt.alloc();
     let mut store = filled(alloc)?;
-    let long = long(alloc, 200)?;
-    let long = long.as_str();
-    let mut bad = String::from_str(alloc, ":")?;
-    bad.push_str(long)?;
-    let bad = bad.as_str();
     let rows = [
-        row(99, "", 1, "", StoreFault::NotFound),
-        row(1, "r", 1, "", StoreFault::Root),
-        row(5, "a:", 0, "", StoreFault::BadName),
-        row(5, "", 99, "", StoreFault::NotFound),
-        row(2, "", 5, "", StoreFault::NotFolder),
-        row(5, "g", 0, "e1", StoreFault::Modified),
-        row(2, "", 3, "", StoreFault::IntoItself),
-        row(5, "A", 0, "", StoreFault::NameTaken),
-        row(5, long, 6, "", StoreFault::PathTooLong),
-        row(99, "a:", 1, "", StoreFault::NotFound),
-        row(99, "", 5, "", StoreFault::NotFound),
-        row(99, "", 1, "e1", StoreFault::NotFound),
-        row(99, "a", 1, "", StoreFault::NotFound),
-        row(1, "a:", 1, "", StoreFault::Root),
-        row(1, "r", 99, "", StoreFault::Root),
-        row(1, "r", 5, "", StoreFault::Root),
-        row(1, "r", 1, "e9", StoreFault::Root),
-        row(1, "a", 1, "", StoreFault::Root),
-        row(5, "a:", 99, "", StoreFault::BadName),
-        row(2, "a:", 5, "", StoreFault::BadName),
-        row(5, "a:", 0, "e1", StoreFault::BadName),
-        row(2, "a:", 3, "", StoreFault::BadName),
-        row(5, bad, 6, "", StoreFault::BadName),
-        row(5, "", 99, "e1", StoreFault::NotFound),
-        row(2, "", 5, "e1", StoreFault::NotFolder),
-        row(5, "", 5, "", StoreFault::NotFolder),
-        row(2, "", 3, "e1", StoreFault::Modified),
-        row(5, "a", 0, "e1", StoreFault::Modified),
-        row(5, long, 6, "e1", StoreFault::Modified),
-        row(2, "a", 3, "", StoreFault::IntoItself),
-        row(7, "", 6, "", StoreFault::NameTaken),
+        (99, "", 1, "", StoreFault::NotFound),
+        (1, "r", 1, "", StoreFault::Root),
+        (5, "a:", 0, "", StoreFault::BadName),
+        (5, "", 99, "", StoreFault::NotFound),
+        (2, "", 5, "", StoreFault::NotFolder),
+        (5, "g", 0, "e1", StoreFault::Modified),
+        (2, "", 3, "", StoreFault::IntoItself),
+        (5, "A", 0, "", StoreFault::NameTaken),
     ];
-    for row in &rows {
-        assert_eq!(rt; fault_of(alloc, &mut store, row)?, Some(row.fault));
+    for (id, name, parent, tag, fault) in rows {
+        assert_eq!(rt;
+            fault_of(alloc, &mut store, id, name, parent, tag)?,
+            Some(fault)
+        );
     }
     assert_eq!(rt; store.number(), 9);
+    Ok(())
+}
+
+#[test]
+fn moves_refused_for_the_first_of_two_causes(rt: HostRuntime) -> Result<(), Fail> {
+    let alloc = rt.alloc();
+    let mut store = filled(alloc)?;
+    let rows = [
+        (99, "a:", 1, "", StoreFault::NotFound),
+        (99, "", 5, "", StoreFault::NotFound),
+        (99, "", 1, "e1", StoreFault::NotFound),
+        (99, "a", 1, "", StoreFault::NotFound),
+        (1, "a:", 1, "", StoreFault::Root),
+        (1, "r", 99, "", StoreFault::Root),
+        (1, "r", 5, "", StoreFault::Root),
+        (1, "r", 1, "e9", StoreFault::Root),
+        (1, "a", 1, "", StoreFault::Root),
+        (5, "a:", 99, "", StoreFault::BadName),
+        (2, "a:", 5, "", StoreFault::BadName),
+        (5, "a:", 0, "e1", StoreFault::BadName),
+        (2, "a:", 3, "", StoreFault::BadName),
+        (5, "", 99, "e1", StoreFault::NotFound),
+        (2, "", 5, "e1", StoreFault::NotFolder),
+        (5, "", 5, "", StoreFault::NotFolder),
+        (2, "", 3, "e1", StoreFault::Modified),
+        (5, "a", 0, "e1", StoreFault::Modified),
+        (2, "a", 3, "", StoreFault::IntoItself),
+        (7, "", 6, "", StoreFault::NameTaken),
+    ];
+    for (id, name, parent, tag, fault) in rows {
+        assert_eq!(rt;
+            fault_of(alloc, &mut store, id, name, parent, tag)?,
+            Some(fault)
+        );
+    }
+    Ok(())
+}
+
+#[test]
+fn long_paths_are_refused(rt: HostRuntime) -> Result<(), Fail> {
+    let alloc = rt.alloc();
+    let mut store = filled(alloc)?;
+    let long = long(alloc, 200)?;
+    let mut bad = String::from_str(alloc, ":")?;
+    bad.push_str(long.as_str())?;
+    let rows = [
+        (long.as_str(), "", StoreFault::PathTooLong),
+        (bad.as_str(), "", StoreFault::BadName),
+        (long.as_str(), "e1", StoreFault::Modified),
+    ];
+    for (name, tag, fault) in rows {
+        assert_eq!(rt; fault_of(alloc, &mut store, 5, name, 6, tag)?, Some(fault));
+    }
     Ok(())
 }
 
