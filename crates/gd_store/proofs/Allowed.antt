@@ -87,6 +87,18 @@ next-number held items bytes room =
     let early : held.number + 1 ≤ 2 ^ 64 - 1 = room.early in
     omega arith
 
+-- the room for a folder that is made
+pub room-to-make : (held : Inventory) (parent : ℕ) (name free : List ℕ) (behaviour : Conflict) → settled_in held parent name behaviour true ≡ Free free → None ≡ make_folder_refusal held parent name behaviour
+    → length held.items + 1 < 100000
+room-to-make held parent name free behaviour is h =
+    let may = may-make held parent name behaviour (settled_in held parent name behaviour true) refl h in
+    room-for-one held (settled_in held parent name behaviour true) free 0 is may.room
+
+pub number-to-make : (held : Inventory) (parent : ℕ) (name : List ℕ) (behaviour : Conflict) → None ≡ make_folder_refusal held parent name behaviour → held.number + 1 < 2 ^ 64
+number-to-make held parent name behaviour h =
+    let may = may-make held parent name behaviour (settled_in held parent name behaviour true) refl h in
+    next-number held _ 0 may.room
+
 -- a file may be put under a folder
 pub record MayPut (held : Inventory) (parent : ℕ) (name bytes : List ℕ) (others : ℕ) (settle : Settle) : Type 0 where
   pub there : is_there parent (nodes_of held) ≡ true

@@ -4,6 +4,7 @@ pub mod Climbs
 pub mod Counts
 pub mod Feeds
 pub mod Files
+pub mod Gives
 pub mod Insides
 pub mod Listing
 pub mod Logs

@@ -1,6 +1,8 @@
 -- The loop that gives new bytes to the item of a number.
-use Rattle.std.proofs.Common.{◌≡◌, ℕ, ◌<◌, ◌+◌, List, length, nat_eq, true, cond, Some, get_or, set, drop, sym, ap, subst, ◌∙◌, eq-eqb, arith}
+use Rattle.std.proofs.Common.{◌≡◌, ℕ, ◌<◌, ◌+◌, List, length, nat_eq, true, cond, Option, Some, get_or, set, drop, sym, ap, subst, ◌∙◌, eq-eqb, arith}
 use Rattle.gd_item.specs.declared.live.LiveItem.{LiveItem}
+use Rattle.gd_item.specs.declared.live.Version.{Version}
+use Rattle.gd_store.specs.Changed.{version_bytes, with_version}
 use Rattle.gd_store.proofs.Changes.{SoFar, found}
 use Rattle.gd_item.specs.Inventory.{changed, live_at, version_in, version_of}
 use Rattle.std.proofs.lemmas.List.{drop_more}
@@ -20,6 +22,14 @@ ends number f whole items i item so lt is at =
     let within : i < length items = omega arith in
     let done : set items i (f (get_or items i item)) ≡ changed number f items = found number f items i item within test (subst P (sym so.same) so.so_far) in
     done ∙ ap (changed number f) so.same
+
+-- the item is found, and gets back a version
+pub ends-version : (number change content : ℕ) (bytes : Option (List ℕ)) (version : Option Version) (whole items : List LiveItem) (i : ℕ) (item : LiveItem) → bytes ≡ version_bytes version
+    → Overwriting number (with_version change content version) whole items i → i < length whole → item ≡ get_or items i item → (get_or items i item).number ≡ number
+    → set items i (record (get_or items i item) { bytes = bytes; change = change; content = content }) ≡ changed number (with_version change content version) whole
+ends-version number change content bytes version whole items i item old so lt is at =
+    ap (λ (b : Option (List ℕ)). set items i (record (get_or items i item) { bytes = b; change = change; content = content })) old
+    ∙ ends number (with_version change content version) whole items i item so lt is at
 
 -- the version that stands in the item of a number
 pub version-found : (number : ℕ) (whole items : List LiveItem) (i : ℕ) (item : LiveItem) → items ≡ whole → live_at number whole ≡ live_at number (drop i whole) → i < length whole

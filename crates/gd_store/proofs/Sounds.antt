@@ -1,5 +1,5 @@
 -- What a store holds stays a tree.
-use Rattle.std.proofs.Common.{◌≡◌, ℕ, ◌+◌, ◌^◌, ◌<◌, ◌≤◌, true, false, not, nat_eq, List, [], ◌∷◌, length, Option, None, refl, sym, subst, arith}
+use Rattle.std.proofs.Common.{◌≡◌, ℕ, ◌+◌, ◌^◌, ◌<◌, ◌≤◌, true, false, not, cond, nat_eq, map, List, [], ◌∷◌, length, Option, Some, None, refl, sym, subst, arith}
 use Rattle.std.specs.List.{All}
 use Rattle.std.proofs.lemmas.List.Elements.{All-weaker}
 use Rattle.gd_names.specs.Caseless.{equal_caseless}
@@ -8,15 +8,16 @@ use Rattle.gd_names.specs.declared.conflict.Sibling.{Sibling}
 use Rattle.gd_names.specs.declared.conflict.Settle.{Settle}
 use Rattle.gd_names.specs.declared.conflict.Settle.TheVariants.{Free, Over, Refuse}
 use Rattle.gd_conflict.proofs.Free.{settled-free, over-sibling}
-use Rattle.gd_item.specs.Inventory.{Inventory, Effect, after, after_all, PutOver, Moved, live_at}
-use Rattle.gd_item.specs.Moves.{new_parent, new_name, is_bad_name, is_in, is_taken_by_other, is_any_too_long, patch_refusal, patch_effect, remove_refusal, remove_effects}
-use Rattle.gd_item.specs.Nodes.{is_folder}
-use Rattle.gd_item.specs.Refusals.{is_there, is_met, is_over_quota, settled_in, siblings_in, folder_effect, file_effect, make_folder_refusal, make_folder_effect, put_over_refusal, put_under_refusal}
+use Rattle.gd_item.specs.Inventory.{Inventory, Effect, after, after_all, PutOver, Moved, Removed, live_at}
+use Rattle.gd_item.specs.Moves.{new_parent, new_name, is_bad_name, is_in, is_taken_by_other, is_any_too_long, patch_refusal, patch_effect, remove_refusal, removal_order, remove_effects}
+use Rattle.gd_item.specs.Nodes.{is_folder, path_of}
+use Rattle.gd_item.specs.Refusals.{is_there, is_met, is_too_long, is_over_quota, settled_in, siblings_in, folder_effect, file_effect, make_folder_refusal, make_folder_effect, put_over_refusal, put_under_refusal}
 use Rattle.gd_item.specs.Sound.{IsWithin, IsItemMap}
 use Rattle.gd_item.specs.Trees.{nodes_of}
 use Rattle.gd_item.specs.declared.condition.Condition.{Condition}
+use Rattle.gd_item.specs.declared.fault.StoreFault.{StoreFault}
 use Rattle.gd_item.specs.declared.live.LiveItem.{LiveItem}
-use Rattle.gd_item.specs.declared.fault.StoreFault.TheVariants.{NotFound, NotFolder, Root, BadName, Modified, IntoItself, NameTaken, PathTooLong, Quota}
+use Rattle.gd_item.specs.declared.fault.StoreFault.TheVariants.{NotFound, NotFolder, NotFile, Root, BadName, Modified, IntoItself, NameTaken, PathTooLong, Quota}
 use Rattle.gd_item.proofs.Effects.{next-inventory, number-positive}
 use Rattle.gd_item.proofs.Moving.{sound-moved}
 use Rattle.gd_item.proofs.Removing.{sound-removed-all}
@@ -25,6 +26,7 @@ use Rattle.gd_store.specs.Stands.{Stands}
 use Rattle.gd_store.proofs.Allowed.{MayMake, may-make, MayPut, may-put, clear, un-not, HasRoom, has-room, next-number}
 use Rattle.gd_store.proofs.Counts.{siblings-few}
 use Rattle.gd_store.proofs.Files.{file-at}
+use Rattle.gd_store.proofs.Steps.{IsSound}
 
 -- the numbers of a store that stands for effects have begun
 pub next-begun : (store : Inventory) (log : List Effect) → Stands store log → 1 < store.next
@@ -56,11 +58,21 @@ folder-sound held parent name behaviour (Over id) sound next number is may =
     absurd cc
 folder-sound held parent name behaviour Refuse sound next number is may = let had : true ≡ false = may.had in absurd cc
 
+folder-light : (held : Inventory) (parent : ℕ) (name : List ℕ) (settle : Settle) → held.kept ≤ 536870912 → (after held (folder_effect parent name settle)).kept ≤ 536870912
+folder-light held parent name (Free free) light = light
+folder-light held parent name (Over id) light = light
+folder-light held parent name Refuse light = light
+
+file-light : (held : Inventory) (parent : ℕ) (name bytes : List ℕ) (others : ℕ) (settle : Settle) → MayPut held parent name bytes others settle → (after held (file_effect parent name bytes settle)).kept ≤ 536870912
+file-light held parent name bytes others (Free free) may = let light : held.kept + (length bytes + others) ≤ 536870912 = may.room.light in omega arith
+file-light held parent name bytes others (Over id) may = let light : held.kept + (length bytes + others) ≤ 536870912 = may.room.light in omega arith
+file-light held parent name bytes others Refuse may = let light : held.kept + (length bytes + others) ≤ 536870912 = may.room.light in omega arith
+
 pub make-sound : (old new : Inventory) (log : List Effect) (parent : ℕ) (name : List ℕ) (behaviour : Conflict) → Stands old log → None ≡ make_folder_refusal old parent name behaviour
-    → new ≡ after old (make_folder_effect old parent name behaviour) → IsItemMap new
+    → new ≡ after old (make_folder_effect old parent name behaviour) → IsSound new
 make-sound old new log parent name behaviour stands allowed is =
     let may = may-make old parent name behaviour (settled_in old parent name behaviour true) refl allowed in
-    subst IsItemMap (sym is) (folder-sound old parent name behaviour (settled_in old parent name behaviour true) stands.sound (next-begun old log stands) (number-begun old log stands) refl may)
+    subst IsSound (sym is) (record { map = folder-sound old parent name behaviour (settled_in old parent name behaviour true) stands.sound (next-begun old log stands) (number-begun old log stands) refl may; light = folder-light old parent name (settled_in old parent name behaviour true) stands.light })
 
 -- a file that is put under a folder
 under-sound : (held : Inventory) (parent : ℕ) (name bytes : List ℕ) (behaviour : Conflict) (others : ℕ) (settle : Settle) → IsItemMap held → 1 < held.next → 0 < held.number → settled_in held parent name behaviour false ≡ settle
@@ -73,22 +85,41 @@ under-sound held parent name bytes behaviour others (Over id) sound next number 
 under-sound held parent name bytes behaviour others Refuse sound next number is may = let had : true ≡ false = may.had in absurd cc
 
 pub put-under-sound : (old new : Inventory) (log : List Effect) (parent : ℕ) (name bytes : List ℕ) (behaviour : Conflict) (condition : Condition) (others : ℕ) → Stands old log
-    → None ≡ put_under_refusal old parent name bytes behaviour condition others → new ≡ after old (file_effect parent name bytes (settled_in old parent name behaviour false)) → IsItemMap new
+    → None ≡ put_under_refusal old parent name bytes behaviour condition others → new ≡ after old (file_effect parent name bytes (settled_in old parent name behaviour false)) → IsSound new
 put-under-sound old new log parent name bytes behaviour condition others stands allowed is =
     let may = may-put old parent name bytes behaviour condition others (settled_in old parent name behaviour false) refl allowed in
-    subst IsItemMap (sym is) (under-sound old parent name bytes behaviour others (settled_in old parent name behaviour false) stands.sound (next-begun old log stands) (number-begun old log stands) refl may)
+    subst IsSound (sym is) (record { map = under-sound old parent name bytes behaviour others (settled_in old parent name behaviour false) stands.sound (next-begun old log stands) (number-begun old log stands) refl may; light = file-light old parent name bytes others (settled_in old parent name behaviour false) may })
+
+-- the drive has room for a file that is put over another
+over-room : (held : Inventory) (number : ℕ) (bytes : List ℕ) (condition : Condition) (others : ℕ) → None ≡ put_over_refusal held number bytes condition others → HasRoom held 0 (length bytes + others)
+over-room held number bytes condition others allowed =
+    let full : Option StoreFault = cond (is_over_quota held 0 (length bytes + others)) (Some Quota) None in
+    let long : Option StoreFault = cond (is_too_long (path_of (nodes_of held) number)) (Some PathTooLong) full in
+    let unmet : Option StoreFault = cond (not (is_met condition (live_at number held.items))) (Some Modified) long in
+    let folder : Option StoreFault = cond (is_folder number (nodes_of held)) (Some NotFile) unmet in
+    let a : (not (is_there number (nodes_of held)) ≡ false) × (None ≡ folder) = clear (not (is_there number (nodes_of held))) NotFound folder allowed in
+    let b : (is_folder number (nodes_of held) ≡ false) × (None ≡ unmet) = clear (is_folder number (nodes_of held)) NotFile unmet a.1 in
+    let c : (not (is_met condition (live_at number held.items)) ≡ false) × (None ≡ long) = clear (not (is_met condition (live_at number held.items))) Modified long b.1 in
+    let d : (is_too_long (path_of (nodes_of held) number) ≡ false) × (None ≡ full) = clear (is_too_long (path_of (nodes_of held) number)) PathTooLong full c.1 in
+    let e : is_over_quota held 0 (length bytes + others) ≡ false = (clear (is_over_quota held 0 (length bytes + others)) Quota None d.1).0 in
+    has-room held 0 (length bytes + others) e
+
+over-light : (held : Inventory) (number : ℕ) (bytes : List ℕ) (condition : Condition) (others : ℕ) → None ≡ put_over_refusal held number bytes condition others → held.kept + length bytes ≤ 536870912
+over-light held number bytes condition others allowed =
+    let light : held.kept + (length bytes + others) ≤ 536870912 = (over-room held number bytes condition others allowed).light in
+    omega arith
 
 -- a file that is put over another
 pub put-over-sound : (old new : Inventory) (log : List Effect) (number : ℕ) (bytes : List ℕ) (condition : Condition) (others : ℕ) → Stands old log
-    → None ≡ put_over_refusal old number bytes condition others → new ≡ after old (PutOver number bytes) → IsItemMap new
+    → None ≡ put_over_refusal old number bytes condition others → new ≡ after old (PutOver number bytes) → IsSound new
 put-over-sound old new log number bytes condition others stands allowed is =
     let a = clear _ _ _ allowed in
     let b = clear _ _ _ a.1 in
-    subst IsItemMap (sym is) (sound-over old number bytes stands.sound (number-begun old log stands) b.0)
+    subst IsSound (sym is) (record { map = sound-over old number bytes stands.sound (number-begun old log stands) b.0; light = over-light old number bytes condition others allowed })
 
 -- an item that is moved
 pub moved-sound : (old new : Inventory) (log : List Effect) (number : ℕ) (name : Option (List ℕ)) (parent : Option ℕ) (condition : Condition) → Stands old log → None ≡ patch_refusal old number name parent condition
-    → new ≡ after_all old (patch_effect old number name parent ∷ []) → IsItemMap new
+    → new ≡ after_all old (patch_effect old number name parent ∷ []) → IsSound new
 moved-sound old new log number name parent condition stands allowed is =
     let a = clear _ _ _ allowed in
     let b = clear _ _ _ a.1 in
@@ -98,15 +129,23 @@ moved-sound old new log number name parent condition stands allowed is =
     let f = clear _ _ _ e.1 in
     let g = clear _ _ _ f.1 in
     let h = clear _ _ _ g.1 in
-    subst IsItemMap (sym is)
-    (sound-moved old number (new_parent old number parent) (new_name old number name) stands.sound (number-begun old log stands) b.0 (un-not _ d.0) (un-not _ e.0) g.0 h.0)
+    subst IsSound (sym is)
+    (record { map = sound-moved old number (new_parent old number parent) (new_name old number name) stands.sound (number-begun old log stands) b.0 (un-not _ d.0) (un-not _ e.0) g.0 h.0; light = stands.light })
+
+-- removals keep the count of bytes
+pub removals-kept : (numbers : List ℕ) (held : Inventory) → (after_all held (map Removed numbers)).kept ≡ held.kept
+removals-kept [] held = refl
+removals-kept (number ∷ numbers) held = removals-kept numbers (after held (Removed number))
+
+pub removals-light : (held : Inventory) (number : ℕ) → held.kept ≤ 536870912 → (after_all held (remove_effects held number)).kept ≤ 536870912
+removals-light held number light = subst (λ kept. kept ≤ 536870912) (sym (removals-kept (removal_order held number) held)) light
 
 -- an item that is removed with all below it
-pub removed-sound : (old new : Inventory) (log : List Effect) (number : ℕ) (condition : Condition) → Stands old log → None ≡ remove_refusal old number condition → new ≡ after_all old (remove_effects old number) → IsItemMap new
+pub removed-sound : (old new : Inventory) (log : List Effect) (number : ℕ) (condition : Condition) → Stands old log → None ≡ remove_refusal old number condition → new ≡ after_all old (remove_effects old number) → IsSound new
 removed-sound old new log number condition stands allowed is =
     let a = clear _ _ _ allowed in
     let b = clear _ _ _ a.1 in
-    subst IsItemMap (sym is) (sound-removed-all old number stands.sound (number-begun old log stands) b.0)
+    subst IsSound (sym is) (record { map = sound-removed-all old number stands.sound (number-begun old log stands) b.0; light = removals-light old number stands.light })
 
 -- an item may be moved only before the last number
 pub may-move : (held : Inventory) (number : ℕ) (name : Option (List ℕ)) (parent : Option ℕ) (condition : Condition) → None ≡ patch_refusal held number name parent condition → held.number + 1 < 2 ^ 64

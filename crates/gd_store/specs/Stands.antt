@@ -1,17 +1,20 @@
 -- For which effects a store stands, and what a call of it answers.
-use Rattle.std.specs.Prelude.{◌≡◌, ℕ, ◌<◌, ◌≤◌, ◌⊎◌, Bool, List, Option, Some, None, Result, IfOk, IfErr}
-use Rattle.gd_item.specs.Inventory.{Inventory, Effect, inventory}
+use Rattle.std.specs.Prelude.{◌≡◌, ℕ, ◌<◌, ◌≤◌, ◌⊎◌, Bool, true, List, Option, Some, None, Result, IfOk, IfErr}
+use Rattle.gd_item.specs.Inventory.{Inventory, Effect, after, inventory}
 use Rattle.gd_item.specs.Ids.{item_id}
+use Rattle.gd_item.specs.Records.{record_at}
 use Rattle.gd_item.specs.Refusals.{touched, is_made}
 use Rattle.gd_item.specs.Sound.{IsItemMap}
 use Rattle.gd_item.specs.declared.id.ItemId.{ItemId}
+use Rattle.gd_item.specs.declared.item.Item.{Item}
 use Rattle.gd_item.specs.declared.fault.StoreFault.{StoreFault}
 use Rattle.gd_item.specs.declared.fault.StoreFault.TheVariants.{Memory}
 
--- the store holds what these effects make, and that is a tree
+-- the store holds what these effects make, and that is a tree; the kept bytes are within the limit
 pub record Stands (store : Inventory) (effects : List Effect) : Type 0 where
   pub held : store ≡ inventory effects
   pub sound : IsItemMap store
+  pub light : store.kept ≤ 536870912
 
 -- the call has no refusal and is done, or it has this refusal, or memory was wanting
 pub record Answers {T : Type 0} (refusal : Option StoreFault) (result : Result T StoreFault) (Done : T → Type 0) : Type 0 where
@@ -27,3 +30,7 @@ pub record IsWithin (items last number : ℕ) : Type 0 where
 -- what a put hands back: the item, and whether it was made
 abbrev pub put_result : Inventory → Effect → ItemId × Bool
 put_result held effect = (item_id (touched held effect), is_made effect)
+
+-- the record of the item that an effect made or changed, with the path of its folder
+abbrev pub record_after : Inventory → Effect → Option Item
+record_after held effect = record_at (touched held effect) true (after held effect)

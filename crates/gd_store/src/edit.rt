@@ -2,6 +2,7 @@ ghost use Rattle.std.specs.Prelude.{◌≡◌, ◌++◌, ◌<◌};
 ghost use Rattle.std.specs.Option.{option_to_list};
 ghost use Rattle.std.specs.Vec.{vec_len, vec_capacity};
 ghost use Rattle.gd_item.specs.Inventory.{changed, with_bytes, with_place, live_at, version_in, version_of};
+ghost use Rattle.gd_store.specs.Changed.{version_bytes, with_version};
 
 use gd_item::{LiveItem, Version};
 use gd_names::{Bytes, Text};
@@ -58,6 +59,37 @@ pub fn place_item(items: &mut [LiveItem], number: u64, change: u64, parent: u64,
             item.parent = parent;
             item.name = name;
             item.change = change;
+            return;
+        }
+    }
+}
+
+/// The bytes of a version, if there is one.
+fn bytes_of(version: Option<Version>) -> Option<Bytes>
+    ensures { result ≡ version_bytes version }
+{
+    match version {
+        None => None,
+        Some(version) => Some(version.bytes),
+    }
+}
+
+/// Gives the item of a number back the version that stood in it, and its change number.
+pub fn restore(
+    items: &mut [LiveItem],
+    number: u64,
+    change: u64,
+    content: u64,
+    version: Option<Version>,
+)
+    ensures { items.new ≡ changed number (with_version change content version) items.old }
+{
+    let bytes = bytes_of(version);
+    for item in items.iter_mut() {
+        if item.number == number {
+            item.bytes = bytes;
+            item.change = change;
+            item.content = content;
             return;
         }
     }

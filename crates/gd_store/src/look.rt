@@ -3,6 +3,7 @@ ghost use Rattle.std.specs.Option.{option_copied};
 ghost use Rattle.gd_item.specs.Nodes.{live_node, is_folder, child_at, number_at};
 ghost use Rattle.gd_item.specs.Inventory.{live_at};
 ghost use Rattle.gd_item.specs.Refusals.{is_there, live_named, siblings_in};
+ghost use Rattle.gd_store.specs.Changed.{change_of, content_of};
 
 use gd_item::LiveItem;
 use gd_names::{List, NoMemory, Sibling, Text, same_caseless};
@@ -106,4 +107,24 @@ pub fn find_names(items: &[LiveItem], names: &[Text]) -> Option<u64>
         }
     }
     Some(number)
+}
+
+/// The change number of the living item of a number, and 0 where there is none.
+pub fn change_at(items: &[LiveItem], number: u64) -> u64
+    ensures { result ≡ change_of (live_at number items.now) }
+{
+    match item_at(items, number) {
+        None => 0,
+        Some(item) => item.change,
+    }
+}
+
+/// The content number of the living item of a number, and 0 where there is none.
+pub fn content_at(items: &[LiveItem], number: u64) -> u64
+    ensures { result ≡ content_of (live_at number items.now) }
+{
+    match item_at(items, number) {
+        None => 0,
+        Some(item) => item.content,
+    }
 }

@@ -2,7 +2,7 @@ ghost use Rattle.std.specs.Prelude.{◌≡◌, ℕ, List, ◌+◌, ◌<◌, ◌^
 ghost use Rattle.gd_item.specs.Ids.{item_id};
 ghost use Rattle.gd_item.specs.Inventory.{Effect, MadeFolder, PutNew, PutOver, after, inventory};
 ghost use Rattle.gd_item.specs.Nodes.{is_folder, path_of, number_at, child_at};
-ghost use Rattle.gd_item.specs.Refusals.{missing, folder_refusal as not_folder, file_refusal as not_file, is_there, settled_in, is_refuse, settled_path, is_too_long, is_over_quota, made_items, is_met as is_condition_met, live_named, make_folder_refusal, make_folder_effect, put_over_refusal, put_under_refusal, put_refusal, put_effect, file_effect};
+ghost use Rattle.gd_item.specs.Refusals.{is_made, missing, folder_refusal as not_folder, file_refusal as not_file, is_there, settled_in, is_refuse, settled_path, is_too_long, is_over_quota, made_items, is_met as is_condition_met, live_named, make_folder_refusal, make_folder_effect, put_over_refusal, put_under_refusal, put_refusal, put_effect, file_effect};
 ghost use Rattle.gd_item.specs.Children.{first_children, has_more_children};
 ghost use Rattle.gd_item.specs.Inventory.{live_at};
 ghost use Rattle.gd_item.specs.Moves.{patch_refusal, patch_effect, remove_refusal, remove_effects};
@@ -10,17 +10,18 @@ ghost use Rattle.gd_item.specs.Refused.{id_number};
 ghost use Rattle.gd_item.specs.Versions.{version_at, content_at};
 ghost use Rattle.gd_item.specs.Records.{record_at, record_with, feed, first_of, last_of};
 ghost use Rattle.std.specs.Option.{option_copied, option_map};
-ghost use Rattle.gd_store.specs.Stands.{put_result};
+ghost use Rattle.gd_store.specs.Stands.{put_result, record_after};
 ghost use Rattle.gd_item.specs.Trees.{nodes_of};
 ghost use Rattle.gd_names.specs.Names.{name_fault};
 
 mod listing;
+mod making;
+mod putting;
 mod relocating;
 mod removing;
 
-use crate::edit::{keep_version, overwrite};
 use crate::feed::{first_changes, put_items, put_root, put_stones};
-use crate::look::{child_named, find_names, is_a_folder, is_known, item_at, item_named, siblings};
+use crate::look::{child_named, find_names, is_a_folder, is_known, item_at, siblings};
 use crate::path::{is_long, path_to};
 use crate::record::{content_tag_of, make_record, make_root_record, parent_path_of};
 use crate::versions::version_bytes;
@@ -286,6 +287,68 @@ impl Store {
         self.take_out(id.0, condition)
     }
 
+    /// Makes a folder, and gives its record with the path of the folder above.
+    pub fn make_folder_and_get(
+        &mut self,
+        parent: ItemId,
+        name: &Text,
+        behaviour: Conflict,
+    ) -> Result<Item, StoreFault>
+        ensures answer { (log : List Effect) → Stands self.old log
+            → Answers (make_folder_refusal (inventory log) parent.0 name.now behaviour) result
+            (λ item. (record_after (inventory log) (make_folder_effect (inventory log) parent.0 name.now behaviour) ≡ Some item)
+            × Stands self.new (log ++ make_folder_effect (inventory log) parent.0 name.now behaviour ∷ [])) }
+        ensures kept { OnErr result (self.new ≡ self.old) }
+    {
+        self.make_and_get(parent.0, name, behaviour)
+    }
+
+    /// Puts a file, and gives its record with the path of its folder, and whether it was made.
+    pub fn put_and_get(
+        &mut self,
+        place: &Place,
+        bytes: &[u8],
+        behaviour: Conflict,
+        condition: &Condition,
+        session_bytes: u64,
+    ) -> Result<(Item, bool), StoreFault>
+        ensures answer { (log : List Effect) → Stands self.old log
+            → Answers (put_refusal (inventory log) place.now bytes.now behaviour condition.now session_bytes) result
+            (λ put. (record_after (inventory log) (put_effect (inventory log) place.now bytes.now behaviour) ≡ Some put.0)
+            × (put.1 ≡ is_made (put_effect (inventory log) place.now bytes.now behaviour))
+            × Stands self.new (log ++ put_effect (inventory log) place.now bytes.now behaviour ∷ [])) }
+        ensures kept { OnErr result (self.new ≡ self.old) }
+    {
+        match place {
+            Place::Over(id) => self.put_over_and_get(id.0, bytes, condition, session_bytes),
+            Place::Under(id, name) => self.put_under_and_get(
+                id.0,
+                name,
+                bytes,
+                behaviour,
+                condition,
+                session_bytes,
+            ),
+        }
+    }
+
+    /// Moves an item, and gives its record with the path of its new folder.
+    pub fn patch_and_get(
+        &mut self,
+        id: ItemId,
+        name: Option<&Text>,
+        parent: Option<ItemId>,
+        condition: &Condition,
+    ) -> Result<Item, StoreFault>
+        ensures answer { (log : List Effect) → Stands self.old log
+            → Answers (patch_refusal (inventory log) id.0 (option_copied name.entry) (id_number parent) condition.now) result
+            (λ item. (record_after (inventory log) (patch_effect (inventory log) id.0 (option_copied name.entry) (id_number parent)) ≡ Some item)
+            × Stands self.new (log ++ patch_effect (inventory log) id.0 (option_copied name.entry) (id_number parent) ∷ [])) }
+        ensures kept { OnErr result (self.new ≡ self.old) }
+    {
+        self.relocate_and_get(id.0, name, parent, condition)
+    }
+
     /// The number of the child that has the name, but for case.
     fn find_child(&self, parent: u64, name: &Text) -> Option<u64>
         ensures { result ≡ child_at parent name.now (nodes_of self.now) }
@@ -419,119 +482,6 @@ impl Store {
         self.kept.saturating_add(bytes).saturating_add(others) > MOST_BYTES
     }
 
-    /// Why a folder is not made.
-    fn folder_refusal(
-        &self,
-        parent: u64,
-        name: &Text,
-        behaviour: Conflict,
-        settle: &Settle,
-        is_long: bool,
-    ) -> Option<StoreFault>
-        requires settle { settle.now ≡ settled_in self.now parent name.now behaviour true }
-        requires long { is_long ≡ is_too_long (settled_path self.now parent settle.now) }
-        ensures { result ≡ make_folder_refusal self.now parent name.now behaviour }
-    {
-        if !is_known(self.items.as_slice(), parent) {
-            Some(StoreFault::NotFound)
-        } else if !is_a_folder(self.items.as_slice(), parent) {
-            Some(StoreFault::NotFolder)
-        } else if is_bad_name(name) {
-            Some(StoreFault::BadName)
-        } else if is_refused(settle) {
-            Some(StoreFault::NameTaken)
-        } else if is_long {
-            Some(StoreFault::PathTooLong)
-        } else if self.is_full(made_by(settle), 0, 0) {
-            Some(StoreFault::Quota)
-        } else {
-            None
-        }
-    }
-
-    /// Adds a folder.
-    fn add_folder(&mut self, parent: u64, name: Text) -> Result<ItemId, NoMemory>
-        requires room { length self.old.items + 1 < 100000 }
-        requires number { self.old.number + 1 < 2 ^ 64 }
-        ensures ok { IfOk result (λ id. (id ≡ item_id self.old.next) × (self.new ≡ after self.old (MadeFolder parent name))) }
-        ensures err { OnErr result (self.new ≡ self.old) }
-    {
-        let item = LiveItem {
-            number: self.last + 1,
-            parent,
-            name,
-            bytes: None,
-            change: self.number + 1,
-            content: 0,
-        };
-        self.items.push(item)?;
-        self.number += 1;
-        self.last += 1;
-        Ok(ItemId(self.last))
-    }
-
-    /// Adds a file.
-    fn add_file(&mut self, parent: u64, name: Text, bytes: Bytes) -> Result<ItemId, NoMemory>
-        requires room { length self.old.items + 1 < 100000 }
-        requires number { self.old.number + 1 < 2 ^ 64 }
-        requires kept { self.old.kept + length bytes < 2 ^ 64 }
-        ensures ok { IfOk result (λ id. (id ≡ item_id self.old.next) × (self.new ≡ after self.old (PutNew parent name bytes))) }
-        ensures err { OnErr result (self.new ≡ self.old) }
-    {
-        let length = bytes.as_slice().len() as u64;
-        let item = LiveItem {
-            number: self.last + 1,
-            parent,
-            name,
-            bytes: Some(bytes),
-            change: self.number + 1,
-            content: self.number + 1,
-        };
-        self.items.push(item)?;
-        self.number += 1;
-        self.last += 1;
-        self.kept += length;
-        Ok(ItemId(self.last))
-    }
-
-    /// Gives a file new bytes.
-    fn put_bytes(&mut self, number: u64, bytes: Bytes) -> Result<(), NoMemory>
-        requires number { self.old.number + 1 < 2 ^ 64 }
-        requires kept { self.old.kept + length bytes < 2 ^ 64 }
-        ensures ok { OnOk result (self.new ≡ after self.old (PutOver number bytes)) }
-        ensures err { OnErr result (self.new ≡ self.old) }
-    {
-        let length = bytes.as_slice().len() as u64;
-        self.replaced.reserve(1)?;
-        let version = overwrite(self.items.as_mut_slice(), number, self.number + 1, bytes);
-        keep_version(&mut self.replaced, version);
-        self.number += 1;
-        self.kept += length;
-        Ok(())
-    }
-
-    /// A folder that is made, or why it is not.
-    fn make(&mut self, parent: u64, name: &Text, behaviour: Conflict) -> Result<ItemId, StoreFault>
-        ensures answer { Answers (make_folder_refusal self.old parent name.now behaviour) result
-            (λ id. (id ≡ item_id self.old.next) × (self.new ≡ after self.old (make_folder_effect self.old parent name.now behaviour))) }
-        ensures kept { OnErr result (self.new ≡ self.old) }
-    {
-        let settle = self.settle(parent, name, behaviour, true)?;
-        let is_long = self.would_be_long(parent, &settle)?;
-        match self.folder_refusal(parent, name, behaviour, &settle, is_long) {
-            Some(fault) => return Err(fault),
-            None => {}
-        }
-        match settle {
-            Settle::Free(free) => {
-                let id = self.add_folder(parent, free)?;
-                Ok(id)
-            }
-            Settle::Over(_) => Err(StoreFault::NameTaken),
-            Settle::Refuse => Err(StoreFault::NameTaken),
-        }
-    }
-
     /// Whether an item that may be there meets a condition.
     fn meets(&self, condition: &Condition, item: Option<&LiveItem>) -> Result<bool, NoMemory>
         ensures { IfOk result (λ met. met ≡ is_condition_met condition.now (option_copied item.entry)) }
@@ -555,14 +505,6 @@ impl Store {
         self.meets(condition, item)
     }
 
-    /// Whether the item of a folder that has the name meets a condition.
-    fn meets_under(&self, parent: u64, name: &Text, condition: &Condition) -> Result<bool, NoMemory>
-        ensures { IfOk result (λ met. met ≡ is_condition_met condition.now (live_named parent name.now self.now.items)) }
-    {
-        let item = item_named(self.items.as_slice(), parent, name);
-        self.meets(condition, item)
-    }
-
     /// Whether the item of a number has a path that is longer than any item's may be.
     fn is_long_at(&self, number: u64) -> Result<bool, NoMemory>
         ensures { IfOk result (λ long. long ≡ is_too_long (path_of (nodes_of self.now) number)) }
@@ -571,130 +513,4 @@ impl Store {
         Ok(is_long(&path))
     }
 
-    /// Why a file is not put over the item of a number.
-    fn over_refusal(
-        &self,
-        number: u64,
-        bytes: &[u8],
-        condition: &Condition,
-        others: u64,
-        is_met: bool,
-        is_long: bool,
-    ) -> Option<StoreFault>
-        requires met { is_met ≡ is_condition_met condition.now (live_at number self.now.items) }
-        requires long { is_long ≡ is_too_long (path_of (nodes_of self.now) number) }
-        ensures { result ≡ put_over_refusal self.now number bytes.now condition.now others }
-    {
-        if !is_known(self.items.as_slice(), number) {
-            Some(StoreFault::NotFound)
-        } else if is_a_folder(self.items.as_slice(), number) {
-            Some(StoreFault::NotFile)
-        } else if !is_met {
-            Some(StoreFault::Modified)
-        } else if is_long {
-            Some(StoreFault::PathTooLong)
-        } else if self.is_full(0, bytes.len() as u64, others) {
-            Some(StoreFault::Quota)
-        } else {
-            None
-        }
-    }
-
-    /// Why a file is not put under a folder.
-    fn under_refusal(
-        &self,
-        parent: u64,
-        name: &Text,
-        bytes: &[u8],
-        behaviour: Conflict,
-        condition: &Condition,
-        others: u64,
-        settle: &Settle,
-        is_met: bool,
-        is_long: bool,
-    ) -> Option<StoreFault>
-        requires settle { settle.now ≡ settled_in self.now parent name.now behaviour false }
-        requires met { is_met ≡ is_condition_met condition.now (live_named parent name.now self.now.items) }
-        requires long { is_long ≡ is_too_long (settled_path self.now parent settle.now) }
-        ensures { result ≡ put_under_refusal self.now parent name.now bytes.now behaviour condition.now others }
-    {
-        if !is_known(self.items.as_slice(), parent) {
-            Some(StoreFault::NotFound)
-        } else if !is_a_folder(self.items.as_slice(), parent) {
-            Some(StoreFault::NotFolder)
-        } else if is_bad_name(name) {
-            Some(StoreFault::BadName)
-        } else if !is_met {
-            Some(StoreFault::Modified)
-        } else if is_refused(settle) {
-            Some(StoreFault::NameTaken)
-        } else if is_long {
-            Some(StoreFault::PathTooLong)
-        } else if self.is_full(made_by(settle), bytes.len() as u64, others) {
-            Some(StoreFault::Quota)
-        } else {
-            None
-        }
-    }
-
-    /// Puts a file over the item of a number, or says why not.
-    fn put_over(
-        &mut self,
-        number: u64,
-        bytes: &[u8],
-        condition: &Condition,
-        others: u64,
-    ) -> Result<(ItemId, bool), StoreFault>
-        ensures answer { Answers (put_over_refusal self.old number bytes.now condition.now others) result
-            (λ put. (put ≡ (item_id number, false)) × (self.new ≡ after self.old (PutOver number bytes.now))) }
-        ensures kept { OnErr result (self.new ≡ self.old) }
-    {
-        let is_met = self.meets_at(number, condition)?;
-        let is_long = self.is_long_at(number)?;
-        match self.over_refusal(number, bytes, condition, others, is_met, is_long) {
-            Some(fault) => return Err(fault),
-            None => {}
-        }
-        let copy = Bytes::from_slice(self.alloc, bytes)?;
-        self.put_bytes(number, copy)?;
-        Ok((ItemId(number), false))
-    }
-
-    /// Puts a file under a folder, or says why not.
-    fn put_under(
-        &mut self,
-        parent: u64,
-        name: &Text,
-        bytes: &[u8],
-        behaviour: Conflict,
-        condition: &Condition,
-        others: u64,
-    ) -> Result<(ItemId, bool), StoreFault>
-        ensures answer { Answers (put_under_refusal self.old parent name.now bytes.now behaviour condition.now others) result
-            (λ put. (put ≡ put_result self.old (file_effect parent name.now bytes.now (settled_in self.old parent name.now behaviour false)))
-            × (self.new ≡ after self.old (file_effect parent name.now bytes.now (settled_in self.old parent name.now behaviour false)))) }
-        ensures kept { OnErr result (self.new ≡ self.old) }
-    {
-        let settle = self.settle(parent, name, behaviour, false)?;
-        let is_met = self.meets_under(parent, name, condition)?;
-        let is_long = self.would_be_long(parent, &settle)?;
-        match self.under_refusal(
-            parent, name, bytes, behaviour, condition, others, &settle, is_met, is_long,
-        ) {
-            Some(fault) => return Err(fault),
-            None => {}
-        }
-        let copy = Bytes::from_slice(self.alloc, bytes)?;
-        match settle {
-            Settle::Free(free) => {
-                let id = self.add_file(parent, free, copy)?;
-                Ok((id, true))
-            }
-            Settle::Over(number) => {
-                self.put_bytes(number, copy)?;
-                Ok((ItemId(number), false))
-            }
-            Settle::Refuse => Err(StoreFault::NameTaken),
-        }
-    }
 }

@@ -109,6 +109,34 @@ fn folders_and_files(rt: HostRuntime) -> Result<(), Fail> {
 }
 
 #[test]
+fn records_of_steps(rt: HostRuntime) -> Result<(), Fail> {
+    let alloc = rt.alloc();
+    let mut store = Store::new(alloc)?;
+    let free = Condition::Free;
+    let d = store.make_folder_and_get(ItemId(1), &text(alloc, "d")?, Conflict::Fail)?;
+    assert_eq!(rt; d.id, ItemId(2));
+    assert_eq!(rt; d.parent_path, Some(text(alloc, "/drive/root:")?));
+    let place = Place::Under(ItemId(2), text(alloc, "a")?);
+    let (a, made) = store.put_and_get(&place, b"hi", Conflict::Replace, &free, 0)?;
+    assert_eq!(rt; a.id, ItemId(3));
+    assert_eq!(rt; a.parent_path, Some(text(alloc, "/drive/root:/d")?));
+    assert_eq!(rt; a.etag.0, text(alloc, "e3")?);
+    assert_eq!(rt; made, true);
+    let (over, made) = store.put_and_get(&place, b"three", Conflict::Replace, &free, 0)?;
+    assert_eq!(rt; over.id, ItemId(3));
+    assert_eq!(rt; over.size, 5);
+    assert_eq!(rt; over.etag.0, text(alloc, "e4")?);
+    assert_eq!(rt; made, false);
+    let name = text(alloc, "b")?;
+    let moved = store.patch_and_get(ItemId(3), Some(&name), Some(ItemId(1)), &free)?;
+    assert_eq!(rt; moved.name, name);
+    assert_eq!(rt; moved.parent_path, Some(text(alloc, "/drive/root:")?));
+    assert_eq!(rt; moved.etag.0, text(alloc, "e5")?);
+    assert_eq!(rt; store.number(), 5);
+    Ok(())
+}
+
+#[test]
 fn versions(rt: HostRuntime) -> Result<(), Fail> {
     let alloc = rt.alloc();
     let mut store = Store::new(alloc)?;

@@ -1,16 +1,18 @@
-ghost use Rattle.std.specs.Prelude.{◌≡◌, ◌+◌, ◌<◌, ◌^◌, false, IfOk, OnErr};
+ghost use Rattle.std.specs.Prelude.{◌≡◌, ◌+◌, ◌<◌, ◌≤◌, ◌^◌, false, Some, IfOk, OnErr};
 ghost use Rattle.std.specs.Option.{option_copied};
 ghost use Rattle.gd_item.specs.Inventory.{Moved, after, live_at};
 ghost use Rattle.gd_item.specs.Moves.{is_in as is_node_in, name_of, new_parent as parent_for, new_name as name_for, is_bad_name as is_name_bad, is_any_too_long, patch_refusal, patch_effect};
 ghost use Rattle.gd_item.specs.Refused.{id_number};
 ghost use Rattle.gd_item.specs.Refusals.{is_met as is_condition_met};
 ghost use Rattle.gd_item.specs.Trees.{nodes_of};
+ghost use Rattle.gd_store.specs.Changed.{moved_back};
+ghost use Rattle.gd_store.specs.Stands.{record_after};
 
 use super::{Store, is_bad_name};
 use crate::edit::place_item;
-use crate::look::{is_a_folder, is_known, item_at};
+use crate::look::{change_at, is_a_folder, is_known, item_at};
 use crate::moving::{is_in, is_taken_by_other, would_any_be_long};
-use gd_item::{Condition, ItemId, StoreFault};
+use gd_item::{Condition, Item, ItemId, StoreFault};
 use gd_names::{NoMemory, Text};
 
 /// Whether a name is given that no item may have.
@@ -171,5 +173,42 @@ impl Store {
         }
         self.move_to(number, to, named);
         Ok(())
+    }
+
+    /// Puts an item back where it stood, at the drive's change number of before.
+    fn put_back(&mut self, number: u64, drive: u64, change: u64, parent: u64, name: Text)
+        requires { self.old.next ≤ drive + 1 }
+        ensures { self.new ≡ moved_back self.old number drive change parent name }
+    {
+        place_item(self.items.as_mut_slice(), number, change, parent, name);
+        self.number = drive;
+    }
+
+    /// Moves an item and gives its record, or says why not. Where memory is wanting for the record the item is put
+    /// back.
+    pub(super) fn relocate_and_get(
+        &mut self,
+        number: u64,
+        name: Option<&Text>,
+        parent: Option<ItemId>,
+        condition: &Condition,
+    ) -> Result<Item, StoreFault>
+        ensures answer { Answers (patch_refusal self.old number (option_copied name.entry) (id_number parent) condition.now) result
+            (λ item. (record_after self.old (patch_effect self.old number (option_copied name.entry) (id_number parent)) ≡ Some item)
+            × (self.new ≡ after self.old (patch_effect self.old number (option_copied name.entry) (id_number parent)))) }
+        ensures kept { OnErr result (self.new ≡ self.old) }
+    {
+        let drive = self.number;
+        let old_change = change_at(self.items.as_slice(), number);
+        let old_parent = self.new_parent(number, None);
+        let old_name = self.old_name(number)?;
+        self.relocate(number, name, parent, condition)?;
+        match self.find_record(number, true) {
+            Ok(Some(made)) => Ok(made),
+            _ => {
+                self.put_back(number, drive, old_change, old_parent, old_name);
+                Err(StoreFault::Memory)
+            }
+        }
     }
 }
