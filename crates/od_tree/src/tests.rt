@@ -59,7 +59,11 @@ fn tied_to_calls(rt: HostRuntime) -> Result<(), Fail> {
     let alloc = rt.alloc();
     let file = at_root(alloc, "a")?;
     let mut edits = List::new(alloc);
-    edits.push((TreeCall::Place, 2, UserEdit::Write(file.clone()?, Bytes::from_slice(alloc, b"mine")?)))?;
+    edits.push((
+        TreeCall::Place,
+        2,
+        UserEdit::Write(file.clone()?, Bytes::from_slice(alloc, b"mine")?),
+    ))?;
     let mut failing = List::new(alloc);
     failing.push((TreeCall::Place, 3))?;
     let mut tree = MemoryTree::new(alloc, edits, failing);
@@ -77,7 +81,10 @@ fn edited(rt: HostRuntime) -> Result<(), Fail> {
     let mut tree = MemoryTree::new(alloc, List::new(alloc), List::new(alloc));
     let file = at_root(alloc, "a")?;
     tree.place(&file, b"1")?;
-    assert_eq!(rt; tree.user(&UserEdit::Move(file.clone()?, at_root(alloc, "b")?))?, true);
+    assert_eq!(rt;
+        tree.user(&UserEdit::Move(file.clone()?, at_root(alloc, "b")?))?,
+        true
+    );
     assert_eq!(rt; tree.user(&UserEdit::Remove(file))?, false);
     let entries = tree.entries(alloc)?;
     assert_eq!(rt; entries.as_slice().len(), 1);
