@@ -28,7 +28,13 @@ impl MemoryKeeper {
         ensures faults { faults_of result ≡ 0 }
         ensures failing { failing_of result ≡ failing }
     {
-        MemoryKeeper { alloc, images: List::new(alloc), failing, calls: 0, faults: 0 }
+        MemoryKeeper {
+            alloc,
+            images: List::new(alloc),
+            failing,
+            calls: 0,
+            faults: 0,
+        }
     }
 
     /// Counts a call, and says whether it fails.

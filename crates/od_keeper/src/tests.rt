@@ -58,8 +58,16 @@ fn commits_in_order(rt: HostRuntime) -> Result<(), Fail> {
         change.put.push(item_of(alloc, number)?)?;
     }
     let path = Path::read(alloc, b"/a")?;
-    change.rows.push(BaseRow { path: path.clone()?, what: Agreed::Folder, flight: None })?;
-    change.rows.push(BaseRow { path, what: Agreed::File(Digest([0; 32])), flight: None })?;
+    change.rows.push(BaseRow {
+        path: path.clone()?,
+        what: Agreed::Folder,
+        flight: None,
+    })?;
+    change.rows.push(BaseRow {
+        path,
+        what: Agreed::File(Digest([0; 32])),
+        flight: None,
+    })?;
     assert_eq!(rt; keeper.commit(&change), Ok(()));
     let mut reset = no_change(alloc);
     reset.reset = true;
@@ -69,7 +77,10 @@ fn commits_in_order(rt: HostRuntime) -> Result<(), Fail> {
     assert_eq!(rt; image.items.as_slice()[0].id, ItemId(1));
     assert_eq!(rt; image.items.as_slice()[2].id, ItemId(3));
     assert_eq!(rt; image.rows.as_slice().len(), 1);
-    assert_eq!(rt; image.rows.as_slice()[0].what, Agreed::File(Digest([0; 32])));
+    assert_eq!(rt;
+        image.rows.as_slice()[0].what,
+        Agreed::File(Digest([0; 32]))
+    );
     reset.gone.push(ItemId(1))?;
     assert_eq!(rt; keeper.commit(&reset), Ok(()));
     assert_eq!(rt; keeper.load(alloc)?.items.as_slice().len(), 0);

@@ -18,15 +18,15 @@ use Rattle.od_tree.specs.declared.step.TreeOp.{TreeOp}
 use Rattle.od_tree.specs.declared.step.TreeOp.TheVariants as op
 use Rattle.od_tree.proofs.Steps.{local-snoc}
 
-or_true : (a b : Bool) → (a || b) ≡ true → (a ≡ true) ⊎ (b ≡ true)
+pub or_true : (a b : Bool) → (a || b) ≡ true → (a ≡ true) ⊎ (b ≡ true)
 or_true true b h = inl refl
 or_true false b h = inr h
 
-or_left : (a b : Bool) → a ≡ true → (a || b) ≡ true
+pub or_left : (a b : Bool) → a ≡ true → (a || b) ≡ true
 or_left true b h = refl
 or_left false b h = cc
 
-or_right : (a b : Bool) → b ≡ true → (a || b) ≡ true
+pub or_right : (a b : Bool) → b ≡ true → (a || b) ≡ true
 or_right true b h = refl
 or_right false b h = h
 
@@ -37,22 +37,22 @@ in_spots n spots = list_any (λ (spot : Spot). stems_from n spot.file) spots
 abbrev pub in_held : ℕ → List HeldFile → Bool
 in_held n held = list_any (λ (file : HeldFile). is_origin n file.file.origin) held
 
-at_path : (n : ℕ) (local : Local) → in_spots n local.spots ≡ true → is_somewhere n local ≡ true
+pub at_path : (n : ℕ) (local : Local) → in_spots n local.spots ≡ true → is_somewhere n local ≡ true
 at_path n local is = or_left (in_spots n local.spots) (in_held n local.held) is
 
-in_holding : (n : ℕ) (local : Local) → in_held n local.held ≡ true → is_somewhere n local ≡ true
+pub in_holding : (n : ℕ) (local : Local) → in_held n local.held ≡ true → is_somewhere n local ≡ true
 in_holding n local is = or_right (in_spots n local.spots) (in_held n local.held) is
 
-somewhere : (n : ℕ) (local : Local) → is_somewhere n local ≡ true → (in_spots n local.spots ≡ true) ⊎ (in_held n local.held ≡ true)
+pub somewhere : (n : ℕ) (local : Local) → is_somewhere n local ≡ true → (in_spots n local.spots ≡ true) ⊎ (in_held n local.held ≡ true)
 somewhere n local is = or_true (in_spots n local.spots) (in_held n local.held) is
 
-any-front : {X : Type 0} (p : X → Bool) (xs ys : List X) → list_any p xs ≡ true → list_any p (xs ++ ys) ≡ true
+pub any-front : {X : Type 0} (p : X → Bool) (xs ys : List X) → list_any p xs ≡ true → list_any p (xs ++ ys) ≡ true
 any-front p xs ys is = list_any-append p xs ys ∙ or_left (list_any p xs) (list_any p ys) is
 
-any-last : {X : Type 0} (p : X → Bool) (xs : List X) (y : X) → p y ≡ true → list_any p (xs ++ y ∷ []) ≡ true
+pub any-last : {X : Type 0} (p : X → Bool) (xs : List X) (y : X) → p y ≡ true → list_any p (xs ++ y ∷ []) ≡ true
 any-last p xs y is = list_any-append p xs (y ∷ []) ∙ or_right (list_any p xs) (p y || false) (or_left (p y) false is)
 
-any-moved : (n : ℕ) (from to : List (List ℕ)) (spots : List Spot) → in_spots n (moved_from from to spots) ≡ in_spots n spots
+pub any-moved : (n : ℕ) (from to : List (List ℕ)) (spots : List Spot) → in_spots n (moved_from from to spots) ≡ in_spots n spots
 any-moved n from to [] = refl
 any-moved n from to (spot ∷ spots) = ap (λ b. stems_from n spot.file || b) (any-moved n from to spots)
 
@@ -64,7 +64,7 @@ without_first n spot spots rest false found later is =
     ⊎_elim (λ first. inl (or_left (stems_from n spot.file) (in_spots n rest) first)) (λ more. ⊎_elim (λ a. inl (or_right (stems_from n spot.file) (in_spots n rest) a)) (λ b. inr b) (later more))
     (or_true (stems_from n spot.file) (in_spots n spots) is)
 
-any-without : (n : ℕ) (at : List (List ℕ)) (spots : List Spot) → in_spots n spots ≡ true → (in_spots n (without_spot at spots) ≡ true) ⊎ (stems_from n (file_at at spots) ≡ true)
+pub any-without : (n : ℕ) (at : List (List ℕ)) (spots : List Spot) → in_spots n spots ≡ true → (in_spots n (without_spot at spots) ≡ true) ⊎ (stems_from n (file_at at spots) ≡ true)
 any-without n at [] is = inl is
 any-without n at (spot ∷ spots) is = without_first n spot spots (without_spot at spots) (is_path spot.path at) (spot_at at spots) (any-without n at spots) is
 
@@ -105,7 +105,7 @@ passed : (fits : Bool) (fault : TreeFault) (rest : Option TreeFault) → cond (n
 passed true fault rest is = refl
 passed false fault rest is = cc
 
-more_spots : (n : ℕ) (local : Local) (more : List Spot) → is_somewhere n local ≡ true → is_somewhere n (record local { spots = local.spots ++ more }) ≡ true
+pub more_spots : (n : ℕ) (local : Local) (more : List Spot) → is_somewhere n local ≡ true → is_somewhere n (record local { spots = local.spots ++ more }) ≡ true
 more_spots n local more is =
     ⊎_elim (λ here. at_path n (record local { spots = local.spots ++ more }) (any-front (λ (spot : Spot). stems_from n spot.file) local.spots more here))
     (λ held. in_holding n (record local { spots = local.spots ++ more }) held) (somewhere n local is)
@@ -155,7 +155,7 @@ back n to number local (Some file) same is =
     (λ gone. at_path n after (any-last (λ (s : Spot). stems_from n s.file) local.spots spot (subst (λ f. stems_held n f ≡ true) same gone)))
     (any-without_held n number local.held held)) (somewhere n local is)
 
-stays_op : (n : ℕ) (local : Local) (call : TreeOp) → may_take (Op call) ≡ false → is_somewhere n local ≡ true → is_somewhere n (after_op local call) ≡ true
+pub stays_op : (n : ℕ) (local : Local) (call : TreeOp) → may_take (Op call) ≡ false → is_somewhere n local ≡ true → is_somewhere n (after_op local call) ≡ true
 stays_op n local (op.List at) keeps is = by_refusal n (op_refusal local (op.List at)) local local is (λ none. is)
 stays_op n local (op.Read at) keeps is = by_refusal n (op_refusal local (op.Read at)) local local is (λ none. is)
 stays_op n local (op.MakeDir at) keeps is = by_refusal n (op_refusal local (op.MakeDir at)) (after_done_op local (op.MakeDir at)) local is (λ none. more_spots n local _ is)

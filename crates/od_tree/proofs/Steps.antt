@@ -69,8 +69,8 @@ pub begins-more : (before mid after : List LocalStep) → Begins before mid → 
 begins-more before mid after first more = record {
   edits = first.edits ++ more.edits;
   grown =
-    more.grown
-    ∙ (ap (λ xs. xs ++ map (λ (e : UserEdit). User e) more.edits) first.grown
-    ∙ (append_assoc before (map (λ (e : UserEdit). User e) first.edits) (map (λ (e : UserEdit). User e) more.edits)
-    ∙ ap (λ xs. before ++ xs) (sym (map-append (λ (e : UserEdit). User e) first.edits more.edits))));
+      more.grown
+      ∙ (ap (λ xs. xs ++ map (λ (e : UserEdit). User e) more.edits) first.grown
+      ∙ (append_assoc before (map (λ (e : UserEdit). User e) first.edits) (map (λ (e : UserEdit). User e) more.edits)
+      ∙ ap (λ xs. before ++ xs) (sym (map-append (λ (e : UserEdit). User e) first.edits more.edits))));
 }

@@ -33,7 +33,7 @@ MayGrow call before after =
 -- what a call does to the log where it is told; the value is that of the folder right before the operation
 pub record Calls {T : Type 0} (call : TreeOp) (Value : Local → T → Type 0) (before after : Option (List LocalStep)) (result : Result T TreeFault) : Type 0 where
   pub ok : IfOk result (λ x. (old : List LocalStep) → before ≡ Some old
-    → (edits : List UserEdit) × (after ≡ Some (with_op old edits call)) × (op_refusal (local_of (edited old edits)) call ≡ None) × Value (local_of (edited old edits)) x)
+      → (edits : List UserEdit) × (after ≡ Some (with_op old edits call)) × (op_refusal (local_of (edited old edits)) call ≡ None) × Value (local_of (edited old edits)) x)
   pub taken : IsErrOf result Taken → Refuses call before after Taken
   pub missing : IsErrOf result Missing → Refuses call before after Missing
   pub not_empty : IsErrOf result NotEmpty → Refuses call before after NotEmpty

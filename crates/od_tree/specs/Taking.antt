@@ -22,3 +22,8 @@ op_takes call = false
 abbrev pub may_take : LocalStep → Bool
 may_take (User edit) = edit_takes edit
 may_take (Op call) = op_takes call
+
+-- whether a step is a discard
+abbrev pub is_discard : LocalStep → Bool
+is_discard (User edit) = false
+is_discard (Op call) = op_takes call

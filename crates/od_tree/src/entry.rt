@@ -16,7 +16,11 @@ impl Clone for Entry {
     ghost is_clone = { λ a b. b ≡ a };
 
     fn clone(&self) -> Result<Entry, AllocError> {
-        Ok(Entry { name: self.name.clone()?, folder: self.folder, size: self.size })
+        Ok(Entry {
+            name: self.name.clone()?,
+            folder: self.folder,
+            size: self.size,
+        })
     }
 }
 

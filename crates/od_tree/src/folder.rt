@@ -41,7 +41,12 @@ impl Folder {
     pub fn new(alloc: Global) -> Folder
         ensures { result ≡ [] }
     {
-        Folder { alloc, steps: Vec::new(alloc), spots: Vec::new(alloc), held: Vec::new(alloc) }
+        Folder {
+            alloc,
+            steps: Vec::new(alloc),
+            spots: Vec::new(alloc),
+            held: Vec::new(alloc),
+        }
     }
 
     pub fn spots(&self) -> &[Spot]
@@ -140,7 +145,10 @@ impl Folder {
             Some(fault) => return Err(fault),
             None => {}
         }
-        let spot = Spot { path: at.clone()?, file: None };
+        let spot = Spot {
+            path: at.clone()?,
+            file: None,
+        };
         self.add(TreeOp::MakeDir(at.clone()?), spot)?;
         Ok(())
     }
@@ -153,8 +161,14 @@ impl Folder {
             None => {}
         }
         let bytes = Bytes::from_slice(self.alloc, bytes)?;
-        let file = LocalFile { bytes: bytes.clone()?, origin: None };
-        let spot = Spot { path: at.clone()?, file: Some(file) };
+        let file = LocalFile {
+            bytes: bytes.clone()?,
+            origin: None,
+        };
+        let spot = Spot {
+            path: at.clone()?,
+            file: Some(file),
+        };
         self.add(TreeOp::Place(at.clone()?, bytes), spot)?;
         Ok(())
     }

@@ -1,13 +1,28 @@
 //! Laws of the definitions, each the contract of a function that does nothing.
-ghost use Rattle.std.specs.Prelude.{◌≡◌, ℕ, true, false, List, [], ◌∷◌, ◌++◌};
-ghost use Rattle.od_tree.specs.Local.{local_of};
-ghost use Rattle.od_tree.specs.Loss.{is_somewhere};
-ghost use Rattle.od_tree.specs.Taking.{may_take};
+ghost use Rattle.std.specs.Prelude.{◌≡◌, ℕ, true, false, ◌||◌, List, [], ◌∷◌, ◌++◌, length};
+ghost use Rattle.od_tree.specs.Local.{local_of, has_place};
+ghost use Rattle.od_tree.specs.Loss.{is_somewhere, is_replaced};
+ghost use Rattle.od_tree.specs.Taking.{may_take, is_discard};
 ghost use Rattle.od_tree.specs.declared.step.LocalStep.{LocalStep};
+ghost use Rattle.od_tree.specs.declared.step.LocalStep.TheVariants.{User};
+ghost use Rattle.od_tree.specs.declared.edit.UserEdit.TheVariants.{Write};
 
 /// A file that stems from a write of the user stays at a path or in holding, but for a later write, removal or move of
 /// the user and for a discard.
 pub fn only_the_user_or_a_discard_takes_a_file()
     ensures { (log : List LocalStep) (step : LocalStep) (n : ℕ) → may_take step ≡ false
         → is_somewhere n (local_of log) ≡ true → is_somewhere n (local_of (log ++ step ∷ [])) ≡ true }
+{}
+
+/// Without a discard a file that stems from a write of the user stands somewhere, or the user replaced it, once it does.
+pub fn a_file_stays_or_is_replaced()
+    ensures { (log : List LocalStep) (step : LocalStep) (n : ℕ) → is_discard step ≡ false
+        → (is_somewhere n (local_of log) || is_replaced n log) ≡ true
+        → (is_somewhere n (local_of (log ++ step ∷ [])) || is_replaced n (log ++ step ∷ [])) ≡ true }
+{}
+
+/// A write of the user that has a place makes a file that stems from it.
+pub fn a_written_file_stands()
+    ensures { (log : List LocalStep) (at : List (List ℕ)) (bytes : List ℕ) → has_place (local_of log) (Write at bytes) ≡ true
+        → is_somewhere (length log) (local_of (log ++ User (Write at bytes) ∷ [])) ≡ true }
 {}

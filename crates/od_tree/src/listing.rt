@@ -42,7 +42,11 @@ fn entry_of(alloc: Global, spot: &Spot) -> Result<Entry, NoMemory>
 {
     let name = last_name(alloc, spot.path.names())?;
     let size = size_in(&spot.file);
-    Ok(Entry { name, folder: spot.file.is_none(), size })
+    Ok(Entry {
+        name,
+        folder: spot.file.is_none(),
+        size,
+    })
 }
 
 /// The entries of a folder in order of name.
@@ -54,7 +58,11 @@ pub fn entries_in(alloc: Global, spots: &[Spot], at: &[Text]) -> Result<List<Ent
     Ok(List::from_vec(entries))
 }
 
-fn place_entries(alloc: Global, spots: &[Spot], at: &[Text]) -> Result<BTreeMap<Path, Entry>, NoMemory>
+fn place_entries(
+    alloc: Global,
+    spots: &[Spot],
+    at: &[Text],
+) -> Result<BTreeMap<Path, Entry>, NoMemory>
     ensures { IfOk result (λ placed. placed.entries ≡ in_order (map (λ (spot : Spot). (spot.path, entry_of spot)) (filter (λ (spot : Spot). is_right_below at.now spot.path) spots.now))) }
 {
     let mut placed = BTreeMap::new(alloc);

@@ -15,7 +15,10 @@ impl Clone for LocalFile {
     ghost is_clone = { λ a b. b ≡ a };
 
     fn clone(&self) -> Result<LocalFile, AllocError> {
-        Ok(LocalFile { bytes: self.bytes.clone()?, origin: self.origin })
+        Ok(LocalFile {
+            bytes: self.bytes.clone()?,
+            origin: self.origin,
+        })
     }
 }
 
@@ -35,7 +38,10 @@ impl Clone for Spot {
     ghost is_clone = { λ a b. b ≡ a };
 
     fn clone(&self) -> Result<Spot, AllocError> {
-        Ok(Spot { path: self.path.clone()?, file: self.file.clone()? })
+        Ok(Spot {
+            path: self.path.clone()?,
+            file: self.file.clone()?,
+        })
     }
 }
 
@@ -56,7 +62,11 @@ impl Clone for HeldFile {
     ghost is_clone = { λ a b. b ≡ a };
 
     fn clone(&self) -> Result<HeldFile, AllocError> {
-        Ok(HeldFile { number: self.number, from: self.from.clone()?, file: self.file.clone()? })
+        Ok(HeldFile {
+            number: self.number,
+            from: self.from.clone()?,
+            file: self.file.clone()?,
+        })
     }
 }
 

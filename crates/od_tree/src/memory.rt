@@ -38,7 +38,13 @@ impl MemoryTree {
         ensures edits { edits_of result ≡ edits }
         ensures failing { failing_of result ≡ failing }
     {
-        MemoryTree { folder: Folder::new(alloc), edits, failing, calls: [0; 11], faults: 0 }
+        MemoryTree {
+            folder: Folder::new(alloc),
+            edits,
+            failing,
+            calls: [0; 11],
+            faults: 0,
+        }
     }
 
     /// The tree in order of path, with None for a folder. This is no step of the log.

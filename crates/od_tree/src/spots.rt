@@ -80,17 +80,32 @@ fn moved_path(alloc: Global, from: &[Text], to: &[Text], path: &Path) -> Result<
     Ok(Path::from_names(names))
 }
 
-fn push_moved(alloc: Global, moved: &mut Vec<Spot>, spots: &[Spot], from: &[Text], to: &[Text]) -> Result<(), NoMemory>
+fn push_moved(
+    alloc: Global,
+    moved: &mut Vec<Spot>,
+    spots: &[Spot],
+    from: &[Text],
+    to: &[Text],
+) -> Result<(), NoMemory>
     ensures { OnOk result (moved.new.items ≡ moved.old.items ++ moved_from from.now to.now spots.now) }
 {
     for spot in spots {
         let path = moved_path(alloc, from, to, &spot.path)?;
-        moved.push(Spot { path, file: spot.file.clone()? })?;
+        moved.push(Spot {
+            path,
+            file: spot.file.clone()?,
+        })?;
     }
     Ok(())
 }
 
-fn moved_without(alloc: Global, spots: &[Spot], index: usize, from: &[Text], to: &[Text]) -> Result<Vec<Spot>, NoMemory>
+fn moved_without(
+    alloc: Global,
+    spots: &[Spot],
+    index: usize,
+    from: &[Text],
+    to: &[Text],
+) -> Result<Vec<Spot>, NoMemory>
     requires { index < length spots.now }
     ensures { IfOk result (λ moved. moved.items ≡ moved_from from.now to.now (remove spots.now index)) }
 {
@@ -101,7 +116,12 @@ fn moved_without(alloc: Global, spots: &[Spot], index: usize, from: &[Text], to:
 }
 
 /// The entries after a move, in which the first entry at the new path is replaced.
-fn moved_spots(alloc: Global, spots: &[Spot], from: &[Text], to: &[Text]) -> Result<Vec<Spot>, NoMemory>
+fn moved_spots(
+    alloc: Global,
+    spots: &[Spot],
+    from: &[Text],
+    to: &[Text],
+) -> Result<Vec<Spot>, NoMemory>
     ensures { IfOk result (λ moved. moved.items ≡ moved_from from.now to.now (without_spot to.now spots.now)) }
 {
     match index_at(spots, to) {
@@ -114,7 +134,12 @@ fn moved_spots(alloc: Global, spots: &[Spot], from: &[Text], to: &[Text]) -> Res
     }
 }
 
-fn move_spots(alloc: Global, spots: &mut Vec<Spot>, from: &[Text], to: &[Text]) -> Result<(), NoMemory>
+fn move_spots(
+    alloc: Global,
+    spots: &mut Vec<Spot>,
+    from: &[Text],
+    to: &[Text],
+) -> Result<(), NoMemory>
     ensures ok { OnOk result (spots.new.items ≡ moved_from from.now to.now (without_spot to.now spots.old.items)) }
     ensures err { OnErr result (spots.new.items ≡ spots.old.items) }
 {
@@ -136,13 +161,28 @@ fn write_file(spots: &mut Vec<Spot>, at: &Path, bytes: &Bytes, step: u64) -> Res
     ensures ok { OnOk result (spots.new.items ≡ without_spot at.now spots.old.items ++ record { path = at.now; file = Some (record { bytes = bytes.now; origin = Some step }) } ∷ []) }
     ensures err { OnErr result (spots.new.items ≡ spots.old.items) }
 {
-    let file = LocalFile { bytes: bytes.clone()?, origin: Some(step) };
+    let file = LocalFile {
+        bytes: bytes.clone()?,
+        origin: Some(step),
+    };
     let path = at.clone()?;
-    put_spot(spots, at.names(), Spot { path, file: Some(file) })
+    put_spot(
+        spots,
+        at.names(),
+        Spot {
+            path,
+            file: Some(file),
+        },
+    )
 }
 
 /// Makes a user's edit that has a place, and is this step of the log.
-pub fn make_edit(alloc: Global, spots: &mut Vec<Spot>, edit: &UserEdit, step: u64) -> Result<(), NoMemory>
+pub fn make_edit(
+    alloc: Global,
+    spots: &mut Vec<Spot>,
+    edit: &UserEdit,
+    step: u64,
+) -> Result<(), NoMemory>
     ensures ok { OnOk result ((held : List HeldFile) → spots.new.items ≡ (after_placed_edit step (record { spots = spots.old.items; held = held }) edit.now).spots) }
     ensures err { OnErr result (spots.new.items ≡ spots.old.items) }
 {
