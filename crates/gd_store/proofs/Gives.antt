@@ -50,7 +50,7 @@ pub undone : (number : ℕ) (f : LiveItem → LiveItem) (g : Option LiveItem →
 undone number f g same [] back = refl
 undone number f g same (x ∷ items) back =
     (elim (nat_eq x.number number) as (λ b. b ≡ nat_eq x.number number → ((item : LiveItem) → Some item ≡ cond b (Some x) (live_at number items) → g (Some item) (f item) ≡ item)
-        → changed number (g (cond b (Some x) (live_at number items))) (cond b (f x ∷ items) (x ∷ changed number f items)) ≡ x ∷ items) [
+    → changed number (g (cond b (Some x) (live_at number items))) (cond b (f x ∷ items) (x ∷ changed number f items)) ≡ x ∷ items) [
       | true ↦ λ is back.
           let h : LiveItem → LiveItem = g (Some x) in
           let test : nat_eq (f x).number number ≡ true = ap (λ n. nat_eq n number) (same x) ∙ sym is in

@@ -1,8 +1,8 @@
-ghost use Rattle.std.specs.Prelude.{◌≡◌, ℕ, List, ◌+◌, ◌<◌, ◌^◌, ◌++◌, [], ◌∷◌, length, map, is_some, true, false, Some, None, IfOk, OnOk, OnErr};
+ghost use Rattle.std.specs.Prelude.{◌≡◌, List, ◌+◌, ◌<◌, ◌++◌, [], ◌∷◌, length, is_some, true, false, Some, None, IfOk, OnErr};
 ghost use Rattle.gd_item.specs.Ids.{item_id};
-ghost use Rattle.gd_item.specs.Inventory.{Effect, MadeFolder, PutNew, PutOver, after, inventory};
-ghost use Rattle.gd_item.specs.Nodes.{is_folder, path_of, number_at, child_at};
-ghost use Rattle.gd_item.specs.Refusals.{is_made, missing, folder_refusal as not_folder, file_refusal as not_file, is_there, settled_in, is_refuse, settled_path, is_too_long, is_over_quota, made_items, is_met as is_condition_met, live_named, make_folder_refusal, make_folder_effect, put_over_refusal, put_under_refusal, put_refusal, put_effect, file_effect};
+ghost use Rattle.gd_item.specs.Inventory.{Effect, after, inventory};
+ghost use Rattle.gd_item.specs.Nodes.{path_of, number_at, child_at};
+ghost use Rattle.gd_item.specs.Refusals.{is_made, missing, folder_refusal as not_folder, file_refusal as not_file, settled_in, is_refuse, settled_path, is_too_long, is_over_quota, made_items, is_met as is_condition_met, make_folder_refusal, make_folder_effect, put_refusal, put_effect};
 ghost use Rattle.gd_item.specs.Children.{first_children, has_more_children};
 ghost use Rattle.gd_item.specs.Inventory.{live_at};
 ghost use Rattle.gd_item.specs.Moves.{patch_refusal, patch_effect, remove_refusal, remove_effects};
@@ -512,5 +512,4 @@ impl Store {
         let path = path_to(self.alloc, self.items.as_slice(), number)?;
         Ok(is_long(&path))
     }
-
 }

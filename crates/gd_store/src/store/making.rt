@@ -89,7 +89,12 @@ impl Store {
     }
 
     /// A folder that is made, or why it is not.
-    pub(super) fn make(&mut self, parent: u64, name: &Text, behaviour: Conflict) -> Result<ItemId, StoreFault>
+    pub(super) fn make(
+        &mut self,
+        parent: u64,
+        name: &Text,
+        behaviour: Conflict,
+    ) -> Result<ItemId, StoreFault>
         ensures answer { Answers (make_folder_refusal self.old parent name.now behaviour) result
             (λ id. (id ≡ item_id self.old.next) × (self.new ≡ after self.old (make_folder_effect self.old parent name.now behaviour))) }
         ensures kept { OnErr result (self.new ≡ self.old) }

@@ -2,7 +2,6 @@ ghost use Rattle.std.specs.Prelude.{◌≡◌, ◌⊎◌, ◌+◌, ◌<◌, ◌^
 ghost use Rattle.gd_item.specs.Ids.{item_id};
 ghost use Rattle.gd_item.specs.Inventory.{PutNew, PutOver, after, live_at};
 ghost use Rattle.gd_item.specs.Nodes.{path_of};
-ghost use Rattle.gd_item.specs.Records.{record_at};
 ghost use Rattle.gd_item.specs.Refusals.{settled_in, settled_path, is_too_long, is_made, is_met as is_condition_met, live_named, put_over_refusal, put_under_refusal, file_effect};
 ghost use Rattle.gd_item.specs.Trees.{nodes_of};
 ghost use Rattle.gd_store.specs.Stands.{put_result, record_after};
@@ -222,12 +221,7 @@ impl Store {
     }
 
     /// Adds a file, and gives its record with the path of its folder.
-    fn add_file_and_get(
-        &mut self,
-        parent: u64,
-        name: Text,
-        bytes: Bytes,
-    ) -> Result<Item, NoMemory>
+    fn add_file_and_get(&mut self, parent: u64, name: Text, bytes: Bytes) -> Result<Item, NoMemory>
         requires room { length self.old.items + 1 < 100000 }
         requires number { self.old.number + 1 < 2 ^ 64 }
         requires kept { self.old.kept + length bytes < 2 ^ 64 }
@@ -271,13 +265,7 @@ impl Store {
                 Ok(made)
             }
             _ => {
-                restore(
-                    self.items.as_mut_slice(),
-                    number,
-                    change,
-                    content,
-                    version,
-                );
+                restore(self.items.as_mut_slice(), number, change, content, version);
                 Err(NoMemory)
             }
         }
