@@ -1,7 +1,7 @@
 use super::*;
-use gd_item::{Digest, Item, ItemId, Kind, Tag};
-use gd_names::{List, Path, Text};
-use std::alloc::{AllocError, Global};
+use gd_item::{Item, ItemId, Kind, Tag};
+use gd_names::{List, NoMemory, Path, Text};
+use std::alloc::Global;
 use std::test::Fail;
 
 fn no_change(alloc: Global) -> Change {
@@ -16,17 +16,37 @@ fn no_change(alloc: Global) -> Change {
     }
 }
 
-fn item_of(alloc: Global, number: u64) -> Result<Item, AllocError> {
+fn item_of(alloc: Global, number: u64) -> Result<Item, NoMemory> {
+    let name = Text::from_str(alloc, "a")?;
+    let etag = Tag(Text::from_str(alloc, "e2")?);
     Ok(Item {
         id: ItemId(number),
         parent: Some(ItemId(1)),
         parent_path: None,
-        name: Text::from_string(String::from_str(alloc, "a")?),
+        name,
         size: 0,
-        etag: Tag(Text::from_string(String::from_str(alloc, "e2")?)),
+        etag,
         ctag: None,
         kind: Kind::Folder { child_count: 0 },
     })
+}
+
+fn items_of(alloc: Global, first: u64, second: u64) -> Result<List<Item>, NoMemory> {
+    let mut items = List::new(alloc);
+    items.push(item_of(alloc, first)?)?;
+    items.push(item_of(alloc, second)?)?;
+    Ok(items)
+}
+
+fn row_of(alloc: Global, path: &[u8]) -> Result<BaseRow, NoMemory> {
+    match Path::read(alloc, path) {
+        Ok(path) => Ok(BaseRow {
+            path,
+            what: Agreed::Folder,
+            flight: None,
+        }),
+        Err(_) => Err(NoMemory),
+    }
 }
 
 /// The empty image at first, and then that with the token.
@@ -40,49 +60,37 @@ fn commit_of_a_token(rt: HostRuntime) -> Result<(), Fail> {
     let mut change = no_change(alloc);
     change.token = Some(Text::from_str(alloc, "t1.2.1")?);
     assert_eq!(rt; keeper.commit(&change), Ok(()));
-    let image = keeper.load(alloc)?;
-    assert_eq!(rt; image.token, change.token);
-    assert_eq!(rt; image.rules, None);
+    assert_eq!(rt; keeper.load(alloc)?.token, change.token);
     Ok(())
 }
 
-/// Items and rows replace those of the same id and path, and stand in order; a failing call changes nothing.
+/// Items and rows stand in their order.
 #[test]
-fn commits_in_order(rt: HostRuntime) -> Result<(), Fail> {
+fn commit_in_order(rt: HostRuntime) -> Result<(), Fail> {
+    let alloc = rt.alloc();
+    let mut keeper = MemoryKeeper::new(alloc, List::new(alloc));
+    let mut change = no_change(alloc);
+    change.put = items_of(alloc, 3, 1)?;
+    change.rows.push(row_of(alloc, b"/a")?)?;
+    assert_eq!(rt; keeper.commit(&change), Ok(()));
+    let image = keeper.load(alloc)?;
+    assert_eq!(rt; image.items, items_of(alloc, 1, 3)?);
+    assert_eq!(rt; image.rows, change.rows);
+    Ok(())
+}
+
+/// A failing call changes nothing.
+#[test]
+fn second_call_fails(rt: HostRuntime) -> Result<(), Fail> {
     let alloc = rt.alloc();
     let mut failing = List::new(alloc);
     failing.push(2)?;
     let mut keeper = MemoryKeeper::new(alloc, failing);
     let mut change = no_change(alloc);
-    for number in [3, 1, 2, 3] {
-        change.put.push(item_of(alloc, number)?)?;
-    }
-    let path = Path::read(alloc, b"/a")?;
-    change.rows.push(BaseRow {
-        path: path.clone()?,
-        what: Agreed::Folder,
-        flight: None,
-    })?;
-    change.rows.push(BaseRow {
-        path,
-        what: Agreed::File(Digest([0; 32])),
-        flight: None,
-    })?;
+    change.put = items_of(alloc, 1, 3)?;
     assert_eq!(rt; keeper.commit(&change), Ok(()));
-    let mut reset = no_change(alloc);
-    reset.reset = true;
-    assert_eq!(rt; keeper.commit(&reset), Err(KeeperFault::Failed));
-    let image = keeper.load(alloc)?;
-    assert_eq!(rt; image.items.as_slice().len(), 3);
-    assert_eq!(rt; image.items.as_slice()[0].id, ItemId(1));
-    assert_eq!(rt; image.items.as_slice()[2].id, ItemId(3));
-    assert_eq!(rt; image.rows.as_slice().len(), 1);
-    assert_eq!(rt;
-        image.rows.as_slice()[0].what,
-        Agreed::File(Digest([0; 32]))
-    );
-    reset.gone.push(ItemId(1))?;
-    assert_eq!(rt; keeper.commit(&reset), Ok(()));
-    assert_eq!(rt; keeper.load(alloc)?.items.as_slice().len(), 0);
+    change.reset = true;
+    assert_eq!(rt; keeper.commit(&change), Err(KeeperFault::Failed));
+    assert_eq!(rt; keeper.load(alloc)?.items.as_slice().len(), 2);
     Ok(())
 }

@@ -1,4 +1,5 @@
 pub mod Above
+pub mod Lossless
 pub mod Removing
 pub mod Replacing
 pub mod Staying

@@ -1,7 +1,9 @@
 //! Laws of the definitions, each the contract of a function that does nothing.
 ghost use Rattle.std.specs.Prelude.{◌≡◌, ℕ, true, false, ◌||◌, List, [], ◌∷◌, ◌++◌, length};
+ghost use Rattle.std.specs.List.{list_any};
+ghost use Rattle.gd_item.specs.declared.live.Version.{Version};
 ghost use Rattle.od_tree.specs.Local.{local_of, has_place};
-ghost use Rattle.od_tree.specs.Loss.{is_somewhere, is_replaced};
+ghost use Rattle.od_tree.specs.Loss.{is_somewhere, is_replaced, no_loss};
 ghost use Rattle.od_tree.specs.Taking.{may_take, is_discard};
 ghost use Rattle.od_tree.specs.declared.step.LocalStep.{LocalStep};
 ghost use Rattle.od_tree.specs.declared.step.LocalStep.TheVariants.{User};
@@ -25,4 +27,9 @@ pub fn a_file_stays_or_is_replaced()
 pub fn a_written_file_stands()
     ensures { (log : List LocalStep) (at : List (List ℕ)) (bytes : List ℕ) → has_place (local_of log) (Write at bytes) ≡ true
         → is_somewhere (length log) (local_of (log ++ User (Write at bytes) ∷ [])) ≡ true }
+{}
+
+/// Where the client discards nothing, no write of the user is lost.
+pub fn nothing_is_lost_without_a_discard()
+    ensures { (log : List LocalStep) (versions : List Version) → list_any is_discard log ≡ false → no_loss log versions ≡ true }
 {}
