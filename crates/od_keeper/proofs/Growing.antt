@@ -1,9 +1,9 @@
 -- What a drive has come to only grows with its log: the effects are more, and the epoch never falls.
-use Rattle.std.proofs.Common.{◌≡◌, ℕ, ◌+◌, ◌-◌, ◌^◌, ◌<◌, ◌≤◌, min, map, length-append, Bool, true, false, cond, List, [], ◌∷◌, ◌++◌, length, take, Option, Some, None, refl, ap, sym, ◌∙◌, subst, arith}
+use Rattle.std.proofs.Common.{◌≡◌, ℕ, ◌+◌, ◌-◌, ◌^◌, ◌≤◌, map, length-append, Bool, true, false, cond, List, [], ◌∷◌, ◌++◌, length, take, Option, Some, None, refl, ap, sym, ◌∙◌, subst, arith}
 use Rattle.std.specs.List.{All, Any}
 use Rattle.std.proofs.lemmas.List.{append-nil, append_assoc, take-append-le, get_or_append_left}
 use Rattle.std.proofs.lemmas.List.Elements.{All-nil, All-weaker}
-use Rattle.gd_item.specs.Inventory.{Effect, Inventory, new_drive, after, after_all, inventory, inventory_at}
+use Rattle.gd_item.specs.Inventory.{Effect, Inventory, new_drive, after, after_all, inventory}
 use Rattle.gd_item.specs.Records.{digest_record}
 use Rattle.gd_item.specs.Sessions.{State, new_state}
 use Rattle.gd_item.specs.Steps.{after_request, after_event, is_accepted, after_step, after_steps, effects_of, state_of, number_of, held_at, accepted_by}
@@ -12,7 +12,6 @@ use Rattle.gd_item.specs.Versions.{put_by, accepted_after, accepted}
 use Rattle.gd_item.specs.declared.item.Item.{Item}
 use Rattle.gd_item.specs.declared.live.Version.{Version}
 use Rattle.gd_item.specs.declared.request.Request.{Request}
-use Rattle.gd_item.specs.declared.step.DriveEvent.{DriveEvent}
 use Rattle.gd_item.specs.declared.step.DriveEvent.TheVariants.{Expire, Restore, EndSession}
 use Rattle.gd_item.specs.declared.step.Step.{Step}
 use Rattle.gd_item.specs.declared.step.Step.TheVariants.{Ask, Event}

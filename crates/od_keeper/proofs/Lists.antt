@@ -3,7 +3,7 @@ use Rattle.std.proofs.Math.Seq.{drop-cons}
 use Rattle.std.proofs.lemmas.List.{append_assoc}
 use Rattle.std.proofs.Common.{◌≡◌, ℕ, Bool, true, false, cond, filter, add-one, zero, suc, ◌+◌, ◌-◌, ◌<◌, ◌≤◌, List, [], ◌∷◌, ◌++◌, length, take, drop, get_or, slice_set, refl, ap, sym, subst, ◌∙◌, arith}
 use Rattle.std.specs.declared.cmp.Ordering.{Ordering}
-use Rattle.od_keeper.specs.Images.{put_in_order, applied}
+use Rattle.od_keeper.specs.Images.{put_in_order}
 use Rattle.od_keeper.specs.Keeping.{last_image}
 use Rattle.od_keeper.specs.declared.image.Image.{Image}
 

@@ -1,12 +1,11 @@
 -- What the client keeps, and how a change is applied to it: whole, its parts in their order.
-use Rattle.std.specs.Prelude.{ℕ, Bool, true, false, not, cond, List, [], ◌∷◌, filter, nat_eq, Option, Some, None}
+use Rattle.std.specs.Prelude.{ℕ, Bool, not, cond, List, [], ◌∷◌, filter, nat_eq, Option, Some, None}
 use Rattle.std.specs.List.{list_any}
 use Rattle.std.specs.Cmp.Lexicographic.{pointwise}
 use Rattle.std.specs.declared.cmp.Ordering.{Ordering}
 use Rattle.std.specs.declared.cmp.Ordering.TheVariants.{Less, Equal, Greater}
 use Rattle.std.specs.Ordering.{nat_cmp}
 use Rattle.gd_item.specs.Trees.{path_cmp}
-use Rattle.gd_item.specs.declared.digest.Digest.{Digest}
 use Rattle.gd_item.specs.declared.id.ItemId.{ItemId}
 use Rattle.gd_item.specs.declared.item.Item.{Item}
 use Rattle.od_keeper.specs.declared.image.BaseRow.{BaseRow}

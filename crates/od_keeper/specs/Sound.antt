@@ -1,6 +1,6 @@
 -- An image is sound in a drive's log where all that it says of the drive was so: each digest that was agreed on is that
 -- of bytes that the drive accepted, and the items are those of the drive at the token's position.
-use Rattle.std.specs.Prelude.{◌≡◌, ℕ, ◌≤◌, Bool, List, [], ◌∷◌, map, Option, Some, None}
+use Rattle.std.specs.Prelude.{◌≡◌, ℕ, ◌≤◌, List, [], ◌∷◌, map, Option, Some, None}
 use Rattle.std.specs.List.{All, Any}
 use Rattle.gd_item.specs.Inventory.{Inventory}
 use Rattle.gd_item.specs.Records.{records_of, digest_record}

@@ -1,13 +1,11 @@
 -- A file that stems from a write stays somewhere, or the user's edit overwrites or removes it.
-use Rattle.std.proofs.Common.{◌≡◌, ◌⊎◌, inl, inr, ℕ, ◌+◌, Bool, true, false, not, ◌||◌, cond, filter, nat_eq, List, [], ◌∷◌, ◌++◌, length, Option, Some, None, refl, ap, sym, ◌∙◌, subst, ⊎_elim}
-use Rattle.std.specs.List.{list_any}
+use Rattle.std.proofs.Common.{◌≡◌, ◌⊎◌, inl, inr, ℕ, ◌+◌, Bool, true, false, not, ◌||◌, cond, filter, nat_eq, List, [], ◌∷◌, ◌++◌, length, Option, Some, refl, ap, ◌∙◌, ⊎_elim}
 use Rattle.std.proofs.lemmas.Bool.{cond-true, eq-eqb}
-use Rattle.od_tree.specs.Local.{Local, empty_folder, is_path, is_from, spot_at, file_in, file_at, has_place, without_spot, without_from, moved_from, after_placed_edit, after_edit, after_step, after_steps, local_of}
-use Rattle.od_tree.specs.Loss.{is_origin, stems_from, is_somewhere, lost_by_placed, lost_by, is_replaced_after, is_replaced}
-use Rattle.od_tree.specs.Taking.{op_takes, is_discard}
+use Rattle.od_tree.specs.Local.{Local, empty_folder, is_path, is_from, spot_at, file_in, file_at, has_place, without_spot, without_from, moved_from, after_placed_edit, after_step, after_steps, local_of}
+use Rattle.od_tree.specs.Loss.{stems_from, is_somewhere, lost_by_placed, lost_by, is_replaced_after, is_replaced}
+use Rattle.od_tree.specs.Taking.{is_discard}
 use Rattle.od_tree.specs.declared.edit.UserEdit.{UserEdit}
 use Rattle.od_tree.specs.declared.edit.UserEdit.TheVariants.{Write, Remove, Move, MakeFolder}
-use Rattle.od_tree.specs.declared.local.LocalFile.{LocalFile}
 use Rattle.od_tree.specs.declared.local.Spot.{Spot}
 use Rattle.od_tree.specs.declared.step.LocalStep.{LocalStep}
 use Rattle.od_tree.specs.declared.step.LocalStep.TheVariants.{User, Op}

@@ -1,12 +1,11 @@
 -- A file that stems from a write stays somewhere, but for the steps that can take one away.
-use Rattle.std.proofs.Common.{◌≡◌, ◌⊎◌, inl, inr, ℕ, ◌+◌, Bool, true, false, not, ◌||◌, cond, nat_eq, is_none, List, [], ◌∷◌, ◌++◌, length, map, Option, Some, None, refl, ap, sym, ◌∙◌, subst, ⊎_elim, ◌-◌, ◌^◌}
+use Rattle.std.proofs.Common.{◌≡◌, ◌⊎◌, inl, inr, ℕ, ◌+◌, Bool, true, false, not, ◌||◌, cond, nat_eq, is_none, List, [], ◌∷◌, ◌++◌, length, Option, Some, None, refl, ap, sym, ◌∙◌, subst, ⊎_elim, ◌-◌, ◌^◌}
 use Rattle.std.specs.List.{list_any}
 use Rattle.std.proofs.lemmas.Bool.{eqb-true}
 use Rattle.std.proofs.lemmas.List.Folds.{list_any-append}
-use Rattle.od_tree.specs.Local.{Local, is_path, spot_at, file_in, file_at, is_folder_spot, held_at, has_place, without_spot, without_held, moved_path, moved_from, greatest_number, set_aside, put_back, after_done_op, after_op, after_step, op_refusal, local_of}
+use Rattle.od_tree.specs.Local.{Local, is_path, spot_at, file_in, file_at, is_folder_spot, held_at, has_place, without_spot, without_held, moved_from, greatest_number, set_aside, put_back, after_done_op, after_op, after_step, op_refusal, local_of}
 use Rattle.od_tree.specs.Loss.{is_origin, stems_from, is_somewhere}
 use Rattle.od_tree.specs.Taking.{may_take}
-use Rattle.od_tree.specs.declared.edit.UserEdit.{UserEdit}
 use Rattle.od_tree.specs.declared.edit.UserEdit.TheVariants.{Write, Remove, Move, MakeFolder}
 use Rattle.od_tree.specs.declared.fault.TreeFault.{TreeFault}
 use Rattle.od_tree.specs.declared.local.HeldFile.{HeldFile}

@@ -1,6 +1,6 @@
 -- No edit is lost: of each write of the user the file stands in the folder or in holding, or the user replaced it, or
 -- its bytes stand in a version that the drive accepted.
-use Rattle.std.specs.Prelude.{ℕ, ◌+◌, Bool, true, false, ◌||◌, cond, List, [], ◌∷◌, ◌++◌, filter, nat_eq, Option, Some, None}
+use Rattle.std.specs.Prelude.{ℕ, ◌+◌, Bool, false, ◌||◌, cond, List, [], ◌∷◌, ◌++◌, filter, nat_eq, Option, Some, None}
 use Rattle.std.specs.List.{list_any, list_all}
 use Rattle.std.specs.Cmp.Lexicographic.{pointwise}
 use Rattle.gd_item.specs.declared.live.Version.{Version}
@@ -12,7 +12,6 @@ use Rattle.od_tree.specs.declared.local.LocalFile.{LocalFile}
 use Rattle.od_tree.specs.declared.local.Spot.{Spot}
 use Rattle.od_tree.specs.declared.step.LocalStep.{LocalStep}
 use Rattle.od_tree.specs.declared.step.LocalStep.TheVariants.{User, Op}
-use Rattle.od_tree.specs.declared.step.TreeOp.{TreeOp}
 use Rattle.od_tree.specs.declared.step.TreeOp.TheVariants as op
 
 -- whether a file stems from the write that is this step

@@ -1,5 +1,5 @@
 -- Some short logs of a folder.
-use Rattle.std.specs.Prelude.{ℕ, List, [], ◌∷◌, ◌++◌, codes, Option, Some, None}
+use Rattle.std.specs.Prelude.{List, [], ◌∷◌, ◌++◌, codes, Some, None}
 use Rattle.od_tree.specs.declared.edit.UserEdit.TheVariants.{Write, Move}
 use Rattle.od_tree.specs.declared.local.LocalFile.{LocalFile}
 use Rattle.od_tree.specs.declared.step.LocalStep.{LocalStep}
