@@ -1,14 +1,12 @@
-ghost use Rattle.std.specs.Prelude.{◌≡◌, ◌≤◌, true, cond, IfOk};
-ghost use Rattle.std.specs.List.{AllZip, list_any};
-ghost use Rattle.gd_names.specs.Streams.{Rose};
-ghost use Rattle.gd_item.specs.Records.{digest_record};
-ghost use Rattle.od_transfer.specs.Asking.{Grows};
-ghost use Rattle.od_transfer.specs.Fits.{Fits, IsTransfer, HasFetchCause, HasCarryCause, fetched};
+ghost use Rattle.std.specs.Prelude.{◌≡◌, true, Some, IfOk};
+ghost use Rattle.std.specs.List.{AllZip};
+ghost use Rattle.od_transfer.specs.Asking.{Grows, may_answer_content, may_answer_download};
+ghost use Rattle.od_transfer.specs.Fits.{Fits, HasDigest, IsTransfer, HasFetchCause, HasCarryCause, fetched, content_in, found_in, downloaded};
 
-use crate::again::ask_thrice;
+use crate::again::send_thrice;
 use crate::job::{Job, Outcome};
 use crate::remote::{AskFault, Remote};
-use gd_item::{Address, Digest, ItemId, Reply, Request, digest_of};
+use gd_item::{Address, Digest, ErrorCode, ItemId, Reply, Request, digest_of};
 use gd_names::{Bytes, List, NoMemory};
 use std::alloc::Global;
 
@@ -32,6 +30,41 @@ fn judge(bytes: Bytes, digest: Digest) -> Outcome
     }
 }
 
+/// The bytes of a reply to a download, or why it is refused.
+fn content_in(reply: Reply) -> Result<Bytes, ErrorCode>
+    requires { may_answer_download reply ≡ true }
+    ensures { content_in reply ≡ Some result }
+{
+    match reply {
+        Reply::Content(bytes) => Ok(bytes),
+        Reply::Refused { status: _, code } => Err(code),
+        _ => unreachable!(),
+    }
+}
+
+/// Where a reply says that the bytes are to be had, or why it is refused.
+fn found_in(reply: Reply) -> Result<(ItemId, u64), ErrorCode>
+    requires { may_answer_content reply ≡ true }
+    ensures { found_in reply ≡ Some result }
+{
+    match reply {
+        Reply::Found { id, version } => Ok((id, version)),
+        Reply::Refused { status: _, code } => Err(code),
+        _ => unreachable!(),
+    }
+}
+
+/// What comes of a download whose reply this is.
+fn downloaded(reply: Reply, digest: Digest) -> Outcome
+    requires { may_answer_download reply ≡ true }
+    ensures { downloaded digest (content_in reply) ≡ Some result }
+{
+    match content_in(reply) {
+        Ok(bytes) => judge(bytes, digest),
+        Err(code) => Outcome::Refused(code),
+    }
+}
+
 fn download<R: Remote>(
     remote: &mut R,
     alloc: Global,
@@ -39,30 +72,30 @@ fn download<R: Remote>(
     version: u64,
     digest: Digest,
 ) -> Result<Outcome, NoMemory>
-    ensures fits { (size : ℕ) → IfOk result (λ outcome. Fits (Job.Fetch id digest size) outcome) }
+    ensures fits { IfOk result (λ outcome. HasDigest digest outcome) }
     ensures log { Grows IsTransfer (R.log remote.old) (R.log remote.new) }
     ensures cause { HasFetchCause (R.faults remote.old) (R.faults remote.new) (R.answers remote.old) (R.answers remote.new) result }
 {
-    match ask_thrice(remote, alloc, &Request::Download { id, version }) {
-        Ok(Reply::Content(bytes)) => Ok(judge(bytes, digest)),
-        Ok(Reply::Refused { status: _, code }) => Ok(Outcome::Refused(code)),
-        Ok(_) => unreachable!(),
+    match send_thrice(remote, alloc, Request::Download { id, version }) {
+        Ok(reply) => Ok(downloaded(reply, digest)),
         Err(AskFault::Failed) => Ok(Outcome::Lost),
         Err(AskFault::Memory) => Err(NoMemory),
     }
 }
 
 fn fetch<R: Remote>(remote: &mut R, alloc: Global, id: ItemId, digest: Digest) -> Result<Outcome, NoMemory>
-    ensures fits { (size : ℕ) → IfOk result (λ outcome. Fits (Job.Fetch id digest size) outcome) }
+    ensures fits { IfOk result (λ outcome. HasDigest digest outcome) }
     ensures log { Grows IsTransfer (R.log remote.old) (R.log remote.new) }
     ensures cause { HasFetchCause (R.faults remote.old) (R.faults remote.new) (R.answers remote.old) (R.answers remote.new) result }
 {
-    match ask_thrice(remote, alloc, &Request::Content { at: Address::Id(id) }) {
-        Ok(Reply::Found { id: found, version }) => download(remote, alloc, found, version, digest),
-        Ok(Reply::Refused { status: _, code }) => Ok(Outcome::Refused(code)),
-        Ok(_) => unreachable!(),
-        Err(AskFault::Failed) => Ok(Outcome::Lost),
-        Err(AskFault::Memory) => Err(NoMemory),
+    let reply = match send_thrice(remote, alloc, Request::Content { at: Address::Id(id) }) {
+        Ok(reply) => reply,
+        Err(AskFault::Failed) => return Ok(Outcome::Lost),
+        Err(AskFault::Memory) => return Err(NoMemory),
+    };
+    match found_in(reply) {
+        Ok((found, version)) => download(remote, alloc, found, version, digest),
+        Err(code) => Ok(Outcome::Refused(code)),
     }
 }
 

@@ -6,7 +6,7 @@ mod carry;
 mod job;
 mod remote;
 
-pub use again::ask_thrice;
+pub use again::{ask_thrice, send_thrice};
 pub use carry::{Carrier, carry_each};
 pub use job::{Job, Outcome};
 pub use remote::{AskFault, Remote};
