@@ -32,7 +32,11 @@ fn ask_twice<R: Remote>(remote: &mut R, alloc: Global, request: &Request) -> Res
 }
 
 /// Sends a request until a reply comes, three times at most.
-pub fn ask_thrice<R: Remote>(remote: &mut R, alloc: Global, request: &Request) -> Result<Reply, AskFault>
+pub fn ask_thrice<R: Remote>(
+    remote: &mut R,
+    alloc: Global,
+    request: &Request,
+) -> Result<Reply, AskFault>
     ensures log { AsksAgain request.now (R.log remote.old) (R.log remote.new) result }
     ensures kind { IfOk result (λ reply. may_answer request.now reply ≡ true) }
     ensures cause { HasCauseBy 3 (R.faults remote.old) (R.faults remote.new) (R.answers remote.old) (R.answers remote.new) (R.in_row remote.old) (R.in_row remote.new) result }
@@ -48,7 +52,11 @@ pub fn ask_thrice<R: Remote>(remote: &mut R, alloc: Global, request: &Request) -
 }
 
 /// Sends a request until a reply comes, three times at most, and lets the request go.
-pub fn send_thrice<R: Remote>(remote: &mut R, alloc: Global, request: Request) -> Result<Reply, AskFault>
+pub fn send_thrice<R: Remote>(
+    remote: &mut R,
+    alloc: Global,
+    request: Request,
+) -> Result<Reply, AskFault>
     ensures log { AsksAgain request (R.log remote.old) (R.log remote.new) result }
     ensures kind { IfOk result (λ reply. may_answer request reply ≡ true) }
     ensures cause { HasCauseBy 3 (R.faults remote.old) (R.faults remote.new) (R.answers remote.old) (R.answers remote.new) (R.in_row remote.old) (R.in_row remote.new) result }

@@ -83,12 +83,23 @@ fn download<R: Remote>(
     }
 }
 
-fn fetch<R: Remote>(remote: &mut R, alloc: Global, id: ItemId, digest: Digest) -> Result<Outcome, NoMemory>
+fn fetch<R: Remote>(
+    remote: &mut R,
+    alloc: Global,
+    id: ItemId,
+    digest: Digest,
+) -> Result<Outcome, NoMemory>
     ensures fits { IfOk result (λ outcome. HasDigest digest outcome) }
     ensures log { Grows IsTransfer (R.log remote.old) (R.log remote.new) }
     ensures cause { HasFetchCause (R.faults remote.old) (R.faults remote.new) (R.answers remote.old) (R.answers remote.new) result }
 {
-    let reply = match send_thrice(remote, alloc, Request::Content { at: Address::Id(id) }) {
+    let reply = match send_thrice(
+        remote,
+        alloc,
+        Request::Content {
+            at: Address::Id(id),
+        },
+    ) {
         Ok(reply) => reply,
         Err(AskFault::Failed) => return Ok(Outcome::Lost),
         Err(AskFault::Memory) => return Err(NoMemory),
@@ -105,12 +116,20 @@ fn carry_one<R: Remote>(remote: &mut R, alloc: Global, job: &Job) -> Result<Outc
     ensures cause { HasFetchCause (R.faults remote.old) (R.faults remote.new) (R.answers remote.old) (R.answers remote.new) result }
 {
     match job {
-        Job::Fetch { id, digest, size: _ } => fetch(remote, alloc, *id, *digest),
+        Job::Fetch {
+            id,
+            digest,
+            size: _,
+        } => fetch(remote, alloc, *id, *digest),
     }
 }
 
 /// Carries job after job, for a `Remote` that is to be a `Carrier`.
-pub fn carry_each<R: Remote>(remote: &mut R, alloc: Global, jobs: &List<Job>) -> Result<List<Outcome>, NoMemory>
+pub fn carry_each<R: Remote>(
+    remote: &mut R,
+    alloc: Global,
+    jobs: &List<Job>,
+) -> Result<List<Outcome>, NoMemory>
     ensures fits { IfOk result (λ outcomes. AllZip Fits jobs.now outcomes) }
     ensures log { Grows IsTransfer (R.log remote.old) (R.log remote.new) }
     ensures cause { HasCarryCause (R.faults remote.old) (R.faults remote.new) (R.answers remote.old) (R.answers remote.new) result }

@@ -5,7 +5,11 @@ use gd_names::{Bytes, Exact};
 #[derive(Clone, Copy, Debug, PartialEq, Eq)]
 pub enum Job {
     /// From the drive, if its bytes have this digest.
-    Fetch { id: ItemId, digest: Digest, size: u64 },
+    Fetch {
+        id: ItemId,
+        digest: Digest,
+        size: u64,
+    },
 }
 
 impl Exact for Job {
