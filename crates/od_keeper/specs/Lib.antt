@@ -1,2 +1,5 @@
 pub mod Images
+pub mod Inserting
+pub mod Keeping
+pub mod Memory
 pub mod Sound

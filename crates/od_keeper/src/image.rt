@@ -30,7 +30,11 @@ impl Clone for BaseRow {
     ghost is_clone = { λ a b. b ≡ a };
 
     fn clone(&self) -> Result<BaseRow, AllocError> {
-        Ok(BaseRow { path: self.path.clone()?, what: self.what, flight: self.flight })
+        Ok(BaseRow {
+            path: self.path.clone()?,
+            what: self.what,
+            flight: self.flight,
+        })
     }
 }
 

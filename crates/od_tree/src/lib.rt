@@ -1,12 +1,30 @@
 //! The local folder and its holding folder: what the user and the client do to them.
 #![tactic(auto)]
 
+mod call;
 mod edit;
+mod entry;
 mod fault;
+mod folder;
+mod instances;
+mod laws;
+mod listing;
 mod local;
+mod look;
+mod memory;
+mod spots;
 mod step;
+#[cfg(test)]
+mod tests;
+mod tree;
 
+pub use call::TreeCall;
 pub use edit::UserEdit;
+pub use entry::Entry;
 pub use fault::TreeFault;
+pub use instances::{calls_refused, file_carried, file_overwritten, folder_listed};
+pub use laws::only_the_user_or_a_discard_takes_a_file;
 pub use local::{HeldFile, LocalFile, Spot};
+pub use memory::MemoryTree;
 pub use step::{LocalStep, TreeOp};
+pub use tree::Tree;

@@ -1,0 +1,16 @@
+-- What the keeper in memory tells.
+use Rattle.std.specs.Prelude.{ℕ, List, Option, Some}
+use Rattle.od_keeper.specs.declared.image.Image.{Image}
+use Rattle.od_keeper.specs.declared.memory.MemoryKeeper.{MemoryKeeper}
+
+-- the images that were committed
+abbrev pub images_of : MemoryKeeper → Option (List Image)
+images_of keeper = Some keeper.images
+
+-- how often it has failed
+abbrev pub faults_of : MemoryKeeper → ℕ
+faults_of keeper = keeper.faults
+
+-- the calls at which it fails
+abbrev pub failing_of : MemoryKeeper → List ℕ
+failing_of keeper = keeper.failing

@@ -1,0 +1,101 @@
+ghost use Rattle.std.specs.Prelude.{◌≡◌, ◌≤◌, [], Some, IfOk, MatchBool};
+ghost use Rattle.gd_names.specs.Streams.{Rose};
+ghost use Rattle.od_keeper.specs.Images.{applied};
+ghost use Rattle.od_keeper.specs.Keeping.{last_image};
+
+use crate::apply::{applied, empty_image};
+use crate::fault::KeeperFault;
+use crate::image::{Change, Image};
+use crate::keeper::Keeper;
+use gd_names::{List, NoMemory};
+use std::alloc::Global;
+
+/// A keeper in memory, that fails at the listed calls of both kinds, counted from 1. A failing call changes nothing.
+#[derive(Debug, Drop)]
+pub struct MemoryKeeper {
+    alloc: Global,
+    images: List<Image>,
+    failing: List<u64>,
+    calls: u64,
+    faults: u64,
+}
+
+impl MemoryKeeper {
+    ghost use Rattle.od_keeper.specs.Memory.{images_of, faults_of, failing_of};
+
+    pub fn new(alloc: Global, failing: List<u64>) -> MemoryKeeper
+        ensures images { images_of result ≡ Some [] }
+        ensures faults { faults_of result ≡ 0 }
+        ensures failing { failing_of result ≡ failing }
+    {
+        MemoryKeeper {
+            alloc,
+            images: List::new(alloc),
+            failing,
+            calls: 0,
+            faults: 0,
+        }
+    }
+
+    /// Counts a call, and says whether it fails.
+    fn fails(&mut self) -> bool
+        ensures images { self.new.images ≡ self.old.images }
+        ensures faults { MatchBool result (Rose self.old.faults self.new.faults) (self.new.faults ≡ self.old.faults) }
+        ensures later { self.old.faults ≤ self.new.faults }
+    {
+        self.calls = self.calls.saturating_add(1);
+        if self.failing.as_slice().contains(&self.calls) {
+            self.faults = self.faults.saturating_add(1);
+            return true;
+        }
+        false
+    }
+}
+
+/// The last of the images, and the empty one where there is none.
+fn last_of(alloc: Global, images: &[Image]) -> Result<Image, NoMemory>
+    ensures { IfOk result (λ image. image ≡ last_image images.now) }
+{
+    match images {
+        [.., image] => Ok(image.clone()?),
+        [] => Ok(empty_image(alloc)),
+    }
+}
+
+/// The last image with a change.
+fn next_of(alloc: Global, change: &Change, images: &[Image]) -> Result<Image, NoMemory>
+    ensures { IfOk result (λ image. image ≡ applied change.now (last_image images.now)) }
+{
+    match images {
+        [.., image] => applied(alloc, change, image),
+        [] => {
+            let empty = empty_image(alloc);
+            applied(alloc, change, &empty)
+        }
+    }
+}
+
+impl Keeper for MemoryKeeper {
+    ghost use Rattle.od_keeper.specs.Memory.{images_of, faults_of};
+
+    ghost images = { λ k. images_of k };
+
+    ghost faults = { λ k. faults_of k };
+
+    fn load(&mut self, alloc: Global) -> Result<Image, KeeperFault> {
+        if self.fails() {
+            return Err(KeeperFault::Failed);
+        }
+        let image = last_of(alloc, self.images.as_slice())?;
+        Ok(image)
+    }
+
+    fn commit(&mut self, change: &Change) -> Result<(), KeeperFault> {
+        if self.fails() {
+            return Err(KeeperFault::Failed);
+        }
+        let image = next_of(self.alloc, change, self.images.as_slice())?;
+        self.images.push(image)?;
+        Ok(())
+    }
+}

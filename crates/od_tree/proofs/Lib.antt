@@ -1,0 +1,4 @@
+pub mod Above
+pub mod Removing
+pub mod Staying
+pub mod Steps

@@ -1,0 +1,21 @@
+-- What the folder in memory tells.
+use Rattle.std.specs.Prelude.{ℕ, List, Option, Some}
+use Rattle.od_tree.specs.declared.call.TreeCall.{TreeCall}
+use Rattle.od_tree.specs.declared.edit.UserEdit.{UserEdit}
+use Rattle.od_tree.specs.declared.memory.MemoryTree.{MemoryTree}
+use Rattle.od_tree.specs.declared.step.LocalStep.{LocalStep}
+
+-- its log
+abbrev pub log_of : MemoryTree → Option (List LocalStep)
+log_of tree = Some tree.folder
+
+-- how often it has failed
+abbrev pub faults_of : MemoryTree → ℕ
+faults_of tree = tree.faults
+
+-- the edits that are tied to its calls, and the calls at which it fails
+abbrev pub edits_of : MemoryTree → List (TreeCall × ℕ × UserEdit)
+edits_of tree = tree.edits
+
+abbrev pub failing_of : MemoryTree → List (TreeCall × ℕ)
+failing_of tree = tree.failing

@@ -1,0 +1,172 @@
+ghost use Rattle.std.specs.Prelude.{◌≡◌, ◌⊎◌, ◌≤◌, ◌<◌, ℕ, List, [], ◌∷◌, ◌++◌, cond, Some, OnErr, IfOk, IfErr, IsErrOf};
+ghost use Rattle.gd_names.specs.Streams.{Rose};
+ghost use Rattle.od_tree.specs.Doing.{Begins};
+
+use crate::call::TreeCall;
+use crate::edit::UserEdit;
+use crate::entry::Entry;
+use crate::fault::TreeFault;
+use crate::folder::Folder;
+use crate::listing::tree_of;
+use crate::step::LocalStep;
+use crate::tree::Tree;
+use gd_names::{Bytes, List, NoMemory, Path};
+use std::alloc::Global;
+
+/// A folder in memory. Edits of the user are tied to the k-th call of a kind, counted from 1, and are made right before
+/// it; an edit without a place is left out. A call that is listed as failing does nothing beside.
+#[derive(Debug, Drop)]
+pub struct MemoryTree {
+    folder: Folder,
+    edits: List<(TreeCall, u64, UserEdit)>,
+    failing: List<(TreeCall, u64)>,
+    calls: [u64; 11],
+    faults: u64,
+}
+
+impl MemoryTree {
+    ghost use Rattle.od_tree.specs.Local.{local_of, local_tree, has_place};
+    ghost use Rattle.od_tree.specs.Memory.{log_of, faults_of, edits_of, failing_of};
+
+    pub fn new(
+        alloc: Global,
+        edits: List<(TreeCall, u64, UserEdit)>,
+        failing: List<(TreeCall, u64)>,
+    ) -> MemoryTree
+        ensures log { log_of result ≡ Some [] }
+        ensures faults { faults_of result ≡ 0 }
+        ensures edits { edits_of result ≡ edits }
+        ensures failing { failing_of result ≡ failing }
+    {
+        MemoryTree { folder: Folder::new(alloc), edits, failing, calls: [0; 11], faults: 0 }
+    }
+
+    /// The tree in order of path, with None for a folder. This is no step of the log.
+    pub fn entries(&self, alloc: Global) -> Result<List<(Path, Option<Bytes>)>, NoMemory>
+        ensures { (log : List LocalStep) → log_of self.now ≡ Some log → IfOk result (λ entries. entries ≡ local_tree log) }
+    {
+        tree_of(alloc, self.folder.spots())
+    }
+
+    /// Makes a user's edit, and says whether it has a place.
+    pub fn user(&mut self, edit: &UserEdit) -> Result<bool, NoMemory>
+        ensures ok { (log : List LocalStep) → log_of self.old ≡ Some log
+            → IfOk result (λ placed. (placed ≡ has_place (local_of log) edit.now) × (log_of self.new ≡ Some (cond placed (log ++ LocalStep.User edit.now ∷ []) log))) }
+        ensures err { OnErr result (log_of self.new ≡ log_of self.old) }
+        ensures faults { faults_of self.new ≡ faults_of self.old }
+    {
+        self.folder.user(edit)
+    }
+
+    /// Counts a call, makes the edits that are tied to it, and fails where it is listed.
+    fn begin(&mut self, call: TreeCall) -> Result<(), TreeFault>
+        ensures log { Begins self.old.folder self.new.folder }
+        ensures later { self.old.faults ≤ self.new.faults }
+        ensures failed { IsErrOf result TreeFault.Failed → Rose self.old.faults self.new.faults }
+        ensures kinds { IfErr result (λ fault. (fault ≡ TreeFault.Failed) ⊎ (fault ≡ TreeFault.Memory)) }
+    {
+        let index = index_of(call);
+        let number = self.calls[index].saturating_add(1);
+        self.calls[index] = number;
+        make_edits(&mut self.folder, self.edits.as_slice(), call, number)?;
+        if is_listed(self.failing.as_slice(), call, number) {
+            self.faults = self.faults.saturating_add(1);
+            return Err(TreeFault::Failed);
+        }
+        Ok(())
+    }
+}
+
+/// A number of its own for each kind of call.
+fn index_of(call: TreeCall) -> usize
+    ensures { result < 11 }
+{
+    match call {
+        TreeCall::List => 0,
+        TreeCall::Read => 1,
+        TreeCall::MakeDir => 2,
+        TreeCall::RemoveDir => 3,
+        TreeCall::Place => 4,
+        TreeCall::Rename => 5,
+        TreeCall::SetAside => 6,
+        TreeCall::ReadAside => 7,
+        TreeCall::PutBack => 8,
+        TreeCall::Discard => 9,
+        TreeCall::Asides => 10,
+    }
+}
+
+fn is_listed(failing: &[(TreeCall, u64)], call: TreeCall, number: u64) -> bool {
+    for (kind, at) in failing {
+        if *kind == call && *at == number {
+            return true;
+        }
+    }
+    false
+}
+
+/// Makes the edits that are tied to a call, after room for all its steps.
+fn make_edits(
+    folder: &mut Folder,
+    edits: &[(TreeCall, u64, UserEdit)],
+    call: TreeCall,
+    number: u64,
+) -> Result<(), NoMemory>
+    ensures { Begins folder.old folder.new }
+{
+    folder.reserve(edits.len() + 1)?;
+    for (kind, at, edit) in edits {
+        make_due(folder, *kind == call && *at == number, edit)?;
+    }
+    Ok(())
+}
+
+fn make_due(folder: &mut Folder, due: bool, edit: &UserEdit) -> Result<(), NoMemory>
+    ensures { Begins folder.old folder.new }
+{
+    if !due {
+        return Ok(());
+    }
+    let _has_place = folder.user(edit)?;
+    Ok(())
+}
+
+impl Tree for MemoryTree {
+    ghost use Rattle.od_tree.specs.Memory.{log_of, faults_of};
+
+    ghost log = { λ t. log_of t };
+
+    ghost faults = { λ t. faults_of t };
+
+    fn list(&mut self, alloc: Global, at: &Path) -> Result<List<Entry>, TreeFault> {
+        self.begin(TreeCall::List)?;
+        match self.folder.list(alloc, at) {
+            Ok(entries) => Ok(entries),
+            Err(fault) => Err(fault),
+        }
+    }
+
+    fn read(&mut self, alloc: Global, at: &Path) -> Result<Bytes, TreeFault> {
+        self.begin(TreeCall::Read)?;
+        match self.folder.read(alloc, at) {
+            Ok(bytes) => Ok(bytes),
+            Err(fault) => Err(fault),
+        }
+    }
+
+    fn make_dir(&mut self, at: &Path) -> Result<(), TreeFault> {
+        self.begin(TreeCall::MakeDir)?;
+        match self.folder.make_dir(at) {
+            Ok(()) => Ok(()),
+            Err(fault) => Err(fault),
+        }
+    }
+
+    fn place(&mut self, at: &Path, bytes: &[u8]) -> Result<(), TreeFault> {
+        self.begin(TreeCall::Place)?;
+        match self.folder.place(at, bytes) {
+            Ok(()) => Ok(()),
+            Err(fault) => Err(fault),
+        }
+    }
+}
