@@ -1,16 +1,16 @@
 -- What comes of a fetch has the job's digest, and its requests are those of a transfer.
-use Rattle.std.proofs.Common.{◌≡◌, ℕ, Bool, true, false, cond, nat_eq, List, Option, Some, None, Result, Ok, Err, refl, ap, sym, ◌∙◌, subst}
-use Rattle.std.specs.Cmp.Lexicographic.{pointwise, same_text}
+use Rattle.std.proofs.Common.{◌≡◌, ℕ, Bool, true, false, cond, List, Option, Some, None, Result, Ok, Err, refl, ap, sym, ◌∙◌, subst}
+use Rattle.std.specs.Cmp.Lexicographic.{same_text}
 use Rattle.gd_item.specs.Records.{digest_record}
 use Rattle.gd_item.specs.declared.digest.Digest.{Digest}
 use Rattle.gd_item.specs.declared.fault.ErrorCode.{ErrorCode}
 use Rattle.gd_item.specs.declared.reply.Reply.{Reply}
 use Rattle.gd_item.specs.declared.request.Request.{Request}
 use Rattle.gd_item.specs.declared.step.Step.{Step}
-use Rattle.od_transfer.specs.Asking.{AsksAgain, Grown, Grows, IsUnheard}
+use Rattle.od_transfer.specs.Asking.{AsksAgain, Grows, IsUnheard}
 use Rattle.od_transfer.specs.Fits.{HasDigest, IsTransfer, is_transfer, is_digest, fetched, downloaded}
 use Rattle.od_transfer.specs.declared.job.Outcome.{Outcome}
-use Rattle.od_transfer.specs.declared.job.Outcome.TheVariants.{Fetched, Changed, Refused, Lost}
+use Rattle.od_transfer.specs.declared.job.Outcome.TheVariants.{Fetched, Changed, Refused}
 use Rattle.od_transfer.specs.declared.remote.AskFault.{AskFault}
 use Rattle.od_transfer.proofs.Logs.{grown-also, heard-grows, grown-then}
 

@@ -1,5 +1,5 @@
 -- A request that is sent again as long as it is not heard.
-use Rattle.std.proofs.Common.{◌≡◌, List, Option, Some, Ok, Err}
+use Rattle.std.proofs.Common.{List, Option, Ok, Err}
 use Rattle.gd_item.specs.declared.reply.Reply.{Reply}
 use Rattle.gd_item.specs.declared.request.Request.{Request}
 use Rattle.gd_item.specs.declared.step.Step.{Step}

@@ -1,6 +1,6 @@
 -- What a request does to the log of the drive that it is sent to, where that is told: others come before it, and then the
 -- drive answers it, or it is lost on its way there or back.
-use Rattle.std.specs.Prelude.{◌≡◌, ◌⊎◌, ℕ, ◌+◌, ◌-◌, ◌^◌, ◌≤◌, min, Bool, true, false, nat_eq, cond, List, [], ◌∷◌, ◌++◌, Option, Some, None, Result, IfOk, OnOk, OnErr, IsErrOf}
+use Rattle.std.specs.Prelude.{◌≡◌, ◌⊎◌, ℕ, ◌+◌, ◌-◌, ◌^◌, ◌≤◌, min, Bool, true, false, nat_eq, cond, List, [], ◌∷◌, ◌++◌, Option, Some, Result, IfOk, OnOk, OnErr, IsErrOf}
 use Rattle.std.specs.List.{AllByRecursion}
 use Rattle.gd_names.specs.Streams.{Rose}
 use Rattle.gd_item.specs.Answers.{answer_of, unserved}
