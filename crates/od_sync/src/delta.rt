@@ -43,7 +43,11 @@ fn page_in(reply: Reply) -> Option<Page>
 }
 
 /// Sends a request for changes once. Without a page it says how many replies came, of which there is one at most.
-fn send_delta<R: Remote>(remote: &mut R, alloc: Global, request: &Request) -> Result<Result<Page, u64>, NoMemory>
+fn send_delta<R: Remote>(
+    remote: &mut R,
+    alloc: Global,
+    request: &Request,
+) -> Result<Result<Page, u64>, NoMemory>
     requires { is_delta request.now ≡ true }
     ensures log { SendsOnce request.now (R.log remote.old) (R.log remote.new) result }
     ensures cause { HasSendCause (R.faults remote.old) (R.faults remote.new) (R.answers remote.old) (R.answers remote.new) (R.in_row remote.old) (R.in_row remote.new) result }
@@ -58,7 +62,11 @@ fn send_delta<R: Remote>(remote: &mut R, alloc: Global, request: &Request) -> Re
     }
 }
 
-fn send_again<R: Remote>(remote: &mut R, alloc: Global, request: &Request) -> Result<Page, DeltaFault>
+fn send_again<R: Remote>(
+    remote: &mut R,
+    alloc: Global,
+    request: &Request,
+) -> Result<Page, DeltaFault>
     requires { is_delta request.now ≡ true }
     ensures log { DeltaAsks request.now (R.log remote.old) (R.log remote.new) result }
     ensures cause { HasDeltaCause (R.faults remote.old) (R.faults remote.new) (R.answers remote.old) (R.answers remote.new) (R.in_row remote.new) result }
@@ -79,7 +87,11 @@ fn send_again<R: Remote>(remote: &mut R, alloc: Global, request: &Request) -> Re
 
 /// Asks for the changes since a token, or for everything. The request is sent again after a failure, and where the
 /// drive lacks memory, three times in all.
-pub fn ask_delta<R: Remote>(remote: &mut R, alloc: Global, token: Option<Text>) -> Result<Page, DeltaFault>
+pub fn ask_delta<R: Remote>(
+    remote: &mut R,
+    alloc: Global,
+    token: Option<Text>,
+) -> Result<Page, DeltaFault>
     ensures log { DeltaAsks (Request.Delta token) (R.log remote.old) (R.log remote.new) result }
     ensures cause { HasDeltaCause (R.faults remote.old) (R.faults remote.new) (R.answers remote.old) (R.answers remote.new) (R.in_row remote.new) result }
 {
