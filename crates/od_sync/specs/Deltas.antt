@@ -46,6 +46,7 @@ pub record Spent (request : Request) (replies : ℕ) (old : List Step) (after : 
   pub such : OwnAre (IsSpent request) part
   pub grown : after ≡ Some (old ++ part)
   pub last : 0 < replies → (before : Option Step) → last_heard_after before part ≡ Some (Ask Own request false true)
+  pub none : replies ≡ 0 → (before : Option Step) → last_heard_after before part ≡ before
 
 -- a page, after such sends: what the drive answered there
 pub record PageHeard (request : Request) (old : List Step) (after : Option (List Step)) (page : Page) : Type 0 where

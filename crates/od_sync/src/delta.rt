@@ -73,7 +73,8 @@ fn send_again<R: Remote>(
 {
     let mut replies: u64 = 0;
     for _sent in 0u64..3 {
-        match send_delta(remote, alloc, request)? {
+        let sent = send_delta(remote, alloc, request)?;
+        match sent {
             Ok(page) => return Ok(page),
             Err(more) => replies += more,
         }
