@@ -2,5 +2,7 @@
 #![tactic(auto)]
 
 mod delta;
+mod pulling;
 
 pub use delta::{DeltaFault, ask_delta};
+pub use pulling::{PullStop, pull};

@@ -4,7 +4,7 @@ use Rattle.od_sync.proofs.Sends.{asks-page, asks-stopped, asks-failed, asks-unse
 use Rattle.od_sync.proofs.delta.send_again.Goals as goal
 
 pub returns-in_err-sent-clause-log : goal.returns-in_err-sent-clause-log
-returns-in_err-sent-clause-log g c = 
+returns-in_err-sent-clause-log g c =
     asks-stopped c.args.request.now c.loop-sent.replies c.from_residual.result (g.R.Remote.log c.args.remote.now) (g.R.Remote.log c.loop-sent.remote) (g.R.Remote.log c.send_delta.new.remote)
     c.in_err-sent.field-0.0 c.from_residual.ensures c.loop-sent.invariant.log c.in_err-sent.ensures.log
 
