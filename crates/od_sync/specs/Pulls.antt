@@ -1,7 +1,9 @@
 -- What a pull says of a drive whose log is told: the view is that of the drive at the request for changes.
-use Rattle.std.specs.Prelude.{◌≡◌, ℕ, ◌-◌, ◌≤◌, true, List, Option, Some, Result, OnOk, OnErr, IsErrOf}
+use Rattle.std.specs.Prelude.{◌≡◌, ℕ, ◌-◌, ◌≤◌, true, List, ◌++◌, Option, Some, Result, OnOk, OnErr, IsErrOf}
 use Rattle.std.specs.Map.{values_of}
 use Rattle.gd_names.specs.Streams.{Rose}
+use Rattle.gd_item.specs.Steps.{state_of, number_of}
+use Rattle.gd_item.specs.Tokens.{token_text}
 use Rattle.gd_item.specs.declared.id.ItemId.{ItemId}
 use Rattle.gd_item.specs.declared.item.Item.{Item}
 use Rattle.gd_item.specs.declared.reply.Page.{Page}
@@ -56,3 +58,10 @@ pub record HasPullCause (faults_before faults_now answers_before answers_now row
   pub bad : (id : ItemId) → IsErrOf result (BadPages id) → Rose answers_before answers_now
   pub unserved : IsErrOf result Unserved → Rose answers_before answers_now
   pub together : IsErrOf result Unserved → (replies : ℕ) × (replies ≤ 3) × RoseBy replies answers_before answers_now × RoseBy (3 - replies) faults_before faults_now
+
+-- the drive's log when it was asked for the page, and the token of a page that was given at its number, after everything
+abbrev pub seen : {token : Option (List ℕ)} {after : Option (List Step)} → (old : List Step) → LastPage token old after → List Step
+seen old last = old ++ last.heard.part
+
+abbrev pub token_then : List Step → List ℕ
+token_then log = token_text (record { epoch = (state_of log).epoch; position = number_of log; start = number_of log })

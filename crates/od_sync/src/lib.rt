@@ -2,7 +2,9 @@
 #![tactic(auto)]
 
 mod delta;
+mod laws;
 mod pulling;
 
 pub use delta::{DeltaFault, ask_delta};
+pub use laws::a_first_pull_mirrors_the_drive;
 pub use pulling::{PullStop, pull};
