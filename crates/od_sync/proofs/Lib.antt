@@ -1,3 +1,4 @@
 pub mod Sends
 pub mod PulledViews
 pub mod FirstPull
+pub mod Looking

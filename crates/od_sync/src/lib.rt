@@ -4,7 +4,9 @@
 mod delta;
 mod laws;
 mod pulling;
+mod scanning;
 
 pub use delta::{DeltaFault, ask_delta};
 pub use laws::a_first_pull_mirrors_the_drive;
 pub use pulling::{PullStop, pull};
+pub use scanning::{Node, ScanFault, scan};
