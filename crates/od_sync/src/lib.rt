@@ -1,11 +1,13 @@
 //! The sync of a local folder with a drive, phase by phase.
 #![tactic(auto)]
 
+mod comparing;
 mod delta;
 mod laws;
 mod pulling;
 mod scanning;
 
+pub use comparing::is_same;
 pub use delta::{DeltaFault, ask_delta};
 pub use laws::a_first_pull_mirrors_the_drive;
 pub use pulling::{PullStop, pull};

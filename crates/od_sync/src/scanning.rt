@@ -189,11 +189,12 @@ pub fn scan<T: Tree>(tree: &mut T, alloc: Global) -> Result<List<(Path, Node)>, 
     let mut found = Vec::new(alloc);
     let mut waiting = Vec::new(alloc);
     let root = Path::root(alloc);
-    match look_at_folder(tree, alloc, &root)? {
+    let entries = look_at_folder(tree, alloc, &root)?;
+    match entries {
         Some(entries) => push_entries(&mut waiting, &root, entries.as_slice())?,
         None => {}
     }
-    for _ in 0..u64::MAX {
+    for _turn in 0..u64::MAX {
         match waiting.pop() {
             Some(next) => visit(tree, alloc, next, &mut waiting, &mut found)?,
             None => return Ok(List::from_vec(found)),
