@@ -2,3 +2,4 @@ pub mod Sends
 pub mod PulledViews
 pub mod FirstPull
 pub mod Looking
+pub mod Compared

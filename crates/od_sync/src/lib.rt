@@ -9,6 +9,6 @@ mod scanning;
 
 pub use comparing::is_same;
 pub use delta::{DeltaFault, ask_delta};
-pub use laws::a_first_pull_mirrors_the_drive;
+pub use laws::{a_first_pull_mirrors_the_drive, the_same_entries_are_the_same_trees};
 pub use pulling::{PullStop, pull};
 pub use scanning::{Node, ScanFault, scan};
