@@ -1,12 +1,10 @@
 -- Trees that compare as the same are the same, where no bytes of the one have the digest of other bytes of the other.
 use Rattle.std.proofs.Common.{◌≡◌, ℕ, Bool, true, false, ◌&&◌, ◌||◌, List, [], ◌∷◌, map, nat_eq, Option, Some, None, refl, ap, sym, ◌∙◌}
 use Rattle.std.proofs.lemmas.Bool.{eq-eqb}
-use Rattle.std.specs.List.{list_any}
 use Rattle.std.specs.Cmp.Lexicographic.{pointwise, same_text}
 use Rattle.gd_item.specs.Records.{digest_record, kind_at, record_of}
 use Rattle.gd_item.specs.declared.digest.Digest.{Digest}
 use Rattle.gd_item.specs.declared.item.Item.{Item}
-use Rattle.gd_item.specs.declared.item.Kind.{Kind}
 use Rattle.gd_item.specs.declared.live.LiveItem.{LiveItem}
 use Rattle.gd_item.specs.Inventory.{Inventory}
 use Rattle.gd_item.specs.Sound.{IsItemMap}
@@ -79,9 +77,9 @@ same-trees all (a ∷ local) (b ∷ placed) apart is =
     let first = both (is_same_entry (a.0, node_of a.1) (b.0, record_of all b.1)) (is_same (scanned local) (Shows all placed)) is in
     let parts = both (pointwise (pointwise nat_eq) a.0 b.0) (is_same_node (node_of a.1) (record_of all b.1).kind) first.0 in
     let same_first : a ≡ (b.0, b.1.bytes) =
-        ap (λ path. (path, a.1)) (same-path a.0 b.0 parts.0)
-        ∙ ap (λ entry. (b.0, entry)) (same-node a.1 b.1.bytes b.1.number all parts.1
-        (λ x y ours theirs digest. apart x y (content-at a.0 a.1 local x ours) (content-at b.0 b.1.bytes (bytes_of placed) y theirs) digest)) in
+    ap (λ path. (path, a.1)) (same-path a.0 b.0 parts.0)
+    ∙ ap (λ entry. (b.0, entry)) (same-node a.1 b.1.bytes b.1.number all parts.1
+    (λ x y ours theirs digest. apart x y (content-at a.0 a.1 local x ours) (content-at b.0 b.1.bytes (bytes_of placed) y theirs) digest)) in
     ap (λ entry. entry ∷ local) same_first
     ∙ ap (λ rest. (b.0, b.1.bytes) ∷ rest)
     (same-trees all local placed (λ x y ours theirs digest. apart x y (rest-content a local x ours) (rest-content (b.0, b.1.bytes) (bytes_of placed) y theirs) digest) first.1)

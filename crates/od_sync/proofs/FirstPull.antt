@@ -1,15 +1,14 @@
 -- A first pull of a drive.
-use Rattle.std.proofs.Common.{◌≡◌, ℕ, ◌+◌, ◌-◌, ◌<◌, ◌≤◌, Bool, true, false, ◌&&◌, not, cond, List, [], ◌∷◌, ◌++◌, length, take, slice_index, nat_lt, map, Option, Some, None, refl, ap, sym, ◌∙◌, subst, arith}
+use Rattle.std.proofs.Common.{◌≡◌, ℕ, ◌+◌, ◌-◌, ◌≤◌, Bool, true, false, ◌&&◌, cond, List, [], ◌∷◌, ◌++◌, length, slice_index, nat_lt, Option, Some, None, refl, ap, sym, ◌∙◌, arith}
 use Rattle.std.proofs.lemmas.Bool.Decides.{nat_tests}
 use Rattle.std.proofs.lemmas.List.{take_all}
 use Rattle.std.proofs.lemmas.Map.Entries.{length-values_of}
 use Rattle.std.specs.List.{AllByRecursion}
 use Rattle.std.specs.Map.{values_of, keys_of}
-use Rattle.gd_item.specs.Answers.{answer_of, delta_reply}
+use Rattle.gd_item.specs.Answers.{answer_of}
 use Rattle.gd_item.specs.Inventory.{Effect, MadeFolder, PutNew, PutOver, Moved, Removed, Inventory, new_drive, inventory, after, after_all, tombstone_of, live_at}
 use Rattle.gd_item.specs.Pages.{page_past, page_link}
-use Rattle.gd_item.specs.Records.{feed, removals, first_of, last_of}
-use Rattle.gd_item.specs.Sessions.{State, held}
+use Rattle.gd_item.specs.Records.{feed, removals, first_of}
 use Rattle.gd_item.specs.Steps.{state_of, held_by, number_of}
 use Rattle.gd_item.specs.declared.live.LiveItem.{LiveItem}
 use Rattle.gd_item.specs.declared.live.Tombstone.{Tombstone}

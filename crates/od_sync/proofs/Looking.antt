@@ -1,8 +1,8 @@
 -- A scan's calls of the folder change nothing but by the user.
-use Rattle.std.proofs.Common.{◌≡◌, ◌⊎◌, inl, inr, List, [], ◌∷◌, ◌++◌, map, Option, Some, Result, Ok, Err, refl, ap, sym, ◌∙◌, append_assoc}
+use Rattle.std.proofs.Common.{◌≡◌, ◌⊎◌, inl, inr, List, [], ◌∷◌, ◌++◌, map, Option, Some, Ok, Err, ap, sym, ◌∙◌, append_assoc}
 use Rattle.std.proofs.lemmas.List.{append-nil}
 use Rattle.std.specs.List.{AllByRecursion}
-use Rattle.od_tree.specs.Calls.{Calls, MayGrow, edited, with_op}
+use Rattle.od_tree.specs.Calls.{Calls, edited, with_op}
 use Rattle.od_tree.specs.Local.{Local}
 use Rattle.od_tree.specs.declared.edit.UserEdit.{UserEdit}
 use Rattle.od_tree.specs.declared.fault.TreeFault.{TreeFault}

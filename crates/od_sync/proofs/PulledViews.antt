@@ -1,5 +1,5 @@
 -- What was pulled of a drive whose log is told.
-use Rattle.std.proofs.Common.{◌≡◌, ℕ, List, Option, Some, Ok, Err, ap, sym, ◌∙◌, subst}
+use Rattle.std.proofs.Common.{◌≡◌, ℕ, List, Option, Some, Ok, ap, ◌∙◌, subst}
 use Rattle.std.specs.Map.{values_of}
 use Rattle.gd_item.specs.declared.item.Item.{Item}
 use Rattle.gd_item.specs.declared.reply.Page.{Page}

@@ -3,7 +3,7 @@ use Rattle.std.proofs.Common.{◌≡◌, ℕ, zero, suc, ◌+◌, ◌<◌, ◌�
 use Rattle.std.proofs.lemmas.Bool.{eqb-true}
 use Rattle.std.proofs.lemmas.List.{append-nil}
 use Rattle.std.specs.Result.{IsErr, IsErrAnd}
-use Rattle.gd_item.specs.Answers.{answer_of, answer_unless, reply_to, refused, delta_reply, unserved}
+use Rattle.gd_item.specs.Answers.{answer_of, answer_unless, reply_to, refused, delta_reply}
 use Rattle.gd_item.specs.Pages.{Asked, Past, Latest, Bad, Lost, asked, is_bad}
 use Rattle.gd_item.specs.Refused.{Refusal, refuse}
 use Rattle.gd_item.specs.Sessions.{State}
@@ -18,7 +18,7 @@ use Rattle.gd_item.specs.declared.request.Request.TheVariants.{Delta}
 use Rattle.gd_item.specs.declared.step.Step.{Step}
 use Rattle.gd_item.specs.declared.step.Step.TheVariants.{Ask, Event}
 use Rattle.gd_item.specs.declared.step.Who.TheVariants.{Own, Other}
-use Rattle.od_transfer.specs.Asking.{Asks, IsSuch, OwnAre, Never, ByOthers, Grown, Heard, Unheard, given, may_answer, is_last_link}
+use Rattle.od_transfer.specs.Asking.{Asks, IsSuch, Never, ByOthers, Grown, Heard, given, may_answer, is_last_link}
 use Rattle.od_transfer.specs.declared.remote.AskFault.{AskFault}
 use Rattle.od_sync.specs.declared.delta.DeltaFault.{DeltaFault}
 use Rattle.od_sync.specs.declared.delta.DeltaFault.TheVariants.{LinkFault, Unserved, Memory}

@@ -1,5 +1,5 @@
 -- A request for changes is sent up to three times: again after a failure, and where the drive lacks memory.
-use Rattle.std.specs.Prelude.{◌≡◌, ℕ, ◌+◌, ◌-◌, ◌<◌, ◌≤◌, Bool, true, false, List, [], ◌∷◌, ◌++◌, Option, Some, None, Result, Ok, Err, IfOk, IfErr, OnOk, OnErr, IsErrOf}
+use Rattle.std.specs.Prelude.{◌≡◌, ℕ, ◌-◌, ◌<◌, ◌≤◌, Bool, true, false, List, [], ◌∷◌, ◌++◌, Option, Some, None, Result, Ok, Err, IfOk, OnOk, OnErr, IsErrOf}
 use Rattle.gd_names.specs.Streams.{Rose}
 use Rattle.gd_item.specs.Answers.{answer_of}
 use Rattle.gd_item.specs.declared.reply.Page.{Page}

@@ -1,5 +1,5 @@
 -- What a pull says of a drive whose log is told: the view is that of the drive at the request for changes.
-use Rattle.std.specs.Prelude.{◌≡◌, ℕ, ◌-◌, ◌≤◌, true, List, ◌++◌, Option, Some, Result, OnOk, OnErr, IsErrOf}
+use Rattle.std.specs.Prelude.{◌≡◌, ℕ, ◌-◌, ◌≤◌, true, List, ◌++◌, Option, Some, Result, OnOk, IsErrOf}
 use Rattle.std.specs.Map.{values_of}
 use Rattle.gd_names.specs.Streams.{Rose}
 use Rattle.gd_item.specs.Steps.{state_of, number_of}

@@ -6,6 +6,8 @@ mod delta;
 mod laws;
 mod pulling;
 mod scanning;
+#[cfg(test)]
+mod tests;
 
 pub use comparing::is_same;
 pub use delta::{DeltaFault, ask_delta};

@@ -69,7 +69,11 @@ struct Waiting {
 }
 
 /// The digest of a file, and None where it is gone.
-fn look_at_file<T: Tree>(tree: &mut T, alloc: Global, at: &Path) -> Result<Option<Digest>, ScanFault>
+fn look_at_file<T: Tree>(
+    tree: &mut T,
+    alloc: Global,
+    at: &Path,
+) -> Result<Option<Digest>, ScanFault>
     requires { 0 < length at.now }
     ensures log { Looks (T.log tree.old) (T.log tree.new) }
     ensures cause { HasScanCause (T.faults tree.old) (T.faults tree.new) result }
@@ -85,7 +89,11 @@ fn look_at_file<T: Tree>(tree: &mut T, alloc: Global, at: &Path) -> Result<Optio
 }
 
 /// The entries of a folder, and None where it is gone.
-fn look_at_folder<T: Tree>(tree: &mut T, alloc: Global, at: &Path) -> Result<Option<List<Entry>>, ScanFault>
+fn look_at_folder<T: Tree>(
+    tree: &mut T,
+    alloc: Global,
+    at: &Path,
+) -> Result<Option<List<Entry>>, ScanFault>
     ensures log { Looks (T.log tree.old) (T.log tree.new) }
     ensures cause { HasScanCause (T.faults tree.old) (T.faults tree.new) result }
 {
@@ -111,7 +119,11 @@ fn path_in(folder: &Path, name: &Text) -> Result<Path, AllocError>
 }
 
 /// Lets the entries of a folder wait, the first of them on top.
-fn push_entries(waiting: &mut Vec<Waiting>, folder: &Path, entries: &[Entry]) -> Result<(), NoMemory> {
+fn push_entries(
+    waiting: &mut Vec<Waiting>,
+    folder: &Path,
+    entries: &[Entry],
+) -> Result<(), NoMemory> {
     for entry in entries.iter().rev() {
         let path = path_in(folder, &entry.name)?;
         waiting.push(Waiting {

@@ -5,6 +5,8 @@ mod again;
 mod carry;
 mod job;
 mod remote;
+#[cfg(test)]
+mod tests;
 
 pub use again::{ask_thrice, send_thrice};
 pub use carry::{Carrier, carry_each};

@@ -1,4 +1,3 @@
-use Rattle.std.proofs.Common.{Some, None, sym, ◌∙◌, ap}
 use Rattle.od_sync.proofs.Sends.{sent-page, sent-unserved, sent-unheard, sent-stopped}
 use Rattle.od_sync.proofs.delta.send_delta.Goals as goal
 

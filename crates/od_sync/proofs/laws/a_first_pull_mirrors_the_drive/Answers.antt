@@ -1,5 +1,4 @@
-use Rattle.std.proofs.Common.{◌≡◌, Some, sym, ◌∙◌, subst}
-use Rattle.gd_item.specs.Steps.{held_by}
+use Rattle.std.proofs.Common.{◌≡◌, Some, ◌∙◌, subst}
 use Rattle.od_mirror.specs.Pulled.{nodes, IsLeastBad}
 use Rattle.od_sync.specs.Pulls.{seen, token_then}
 use Rattle.od_sync.proofs.FirstPull.{first-items, first-token, never-bad}
@@ -12,7 +11,7 @@ returns-clause-items c old after view pulled sound =
 pub returns-clause-token : goal.returns-clause-token
 returns-clause-token c old after view pulled =
     let same : Some view.token ≡ Some (token_then (seen old pulled.last)) =
-        pulled.view_is.token ∙ first-token (seen old pulled.last) pulled.last.heard.size pulled.last.page pulled.last.heard.page_is pulled.last.last_page in
+    pulled.view_is.token ∙ first-token (seen old pulled.last) pulled.last.heard.size pulled.last.page pulled.last.heard.page_is pulled.last.last_page in
     cc same
 
 pub returns-clause-never_bad : goal.returns-clause-never_bad
