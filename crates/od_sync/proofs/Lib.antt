@@ -1,0 +1,5 @@
+pub mod Sends
+pub mod PulledViews
+pub mod FirstPull
+pub mod Looking
+pub mod Compared

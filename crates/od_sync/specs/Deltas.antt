@@ -1,0 +1,110 @@
+-- A request for changes is sent up to three times: again after a failure, and where the drive lacks memory.
+use Rattle.std.specs.Prelude.{◌≡◌, ℕ, ◌-◌, ◌<◌, ◌≤◌, Bool, true, false, List, [], ◌∷◌, ◌++◌, Option, Some, None, Result, Ok, Err, IfOk, OnOk, OnErr, IsErrOf}
+use Rattle.gd_names.specs.Streams.{Rose}
+use Rattle.gd_item.specs.Answers.{answer_of}
+use Rattle.gd_item.specs.declared.reply.Page.{Page}
+use Rattle.gd_item.specs.declared.reply.Reply.{Reply}
+use Rattle.gd_item.specs.declared.reply.Reply.TheVariants as reply
+use Rattle.gd_item.specs.declared.request.Request.{Request}
+use Rattle.gd_item.specs.declared.request.Request.TheVariants.{Delta}
+use Rattle.gd_item.specs.declared.step.Step.{Step}
+use Rattle.gd_item.specs.declared.step.Step.TheVariants.{Ask, Event}
+use Rattle.gd_item.specs.declared.step.Who.TheVariants.{Own, Other}
+use Rattle.od_transfer.specs.Asking.{OwnAre, Grown, RoseBy, is_last_link}
+use Rattle.od_sync.specs.declared.delta.DeltaFault.{DeltaFault}
+use Rattle.od_sync.specs.declared.delta.DeltaFault.TheVariants.{LinkFault, Unserved}
+
+-- whether a request asks for changes
+abbrev pub is_delta : Request → Bool
+is_delta (Delta token) = true
+is_delta request = false
+
+-- the page of a reply, where the reply is one to such a request
+abbrev pub page_in : Reply → Option (Option Page)
+page_in (reply.Page page) = Some (Some page)
+page_in (reply.Refused status code) = Some None
+page_in reply = None
+
+-- the last request of this client that was heard, after an earlier one
+abbrev pub heard_step : Option Step → Step → Option Step
+heard_step last (Ask Own request served true) = Some (Ask Own request served true)
+heard_step last (Ask Own request served false) = last
+heard_step last (Ask Other request served heard) = last
+heard_step last (Event event) = last
+
+abbrev pub last_heard_after : Option Step → List Step → Option Step
+last_heard_after last [] = last
+last_heard_after last (step ∷ steps) = last_heard_after (heard_step last step) steps
+
+-- a send without a page: it was not heard, or the drive lacked memory
+abbrev pub IsSpent : Request → Request → Bool → Bool → Type 0
+IsSpent request sent served heard = (sent ≡ request) × (heard ≡ true → served ≡ false)
+
+-- sends without a page, to which there were so many replies
+pub record Spent (request : Request) (replies : ℕ) (old : List Step) (after : Option (List Step)) : Type 0 where
+  pub part : List Step
+  pub such : OwnAre (IsSpent request) part
+  pub grown : after ≡ Some (old ++ part)
+  pub last : 0 < replies → (before : Option Step) → last_heard_after before part ≡ Some (Ask Own request false true)
+  pub none : replies ≡ 0 → (before : Option Step) → last_heard_after before part ≡ before
+
+-- a page, after such sends: what the drive answered there
+pub record PageHeard (request : Request) (old : List Step) (after : Option (List Step)) (page : Page) : Type 0 where
+  pub part : List Step
+  pub such : OwnAre (IsSpent request) part
+  pub size : ℕ
+  pub grown : after ≡ Some ((old ++ part) ++ Ask Own request true true ∷ [])
+  pub page_is : reply.Page page ≡ answer_of (old ++ part) size request
+
+-- the log where sends ended in no page because the drive lacked memory
+pub record EndsUnserved (request : Request) (old : List Step) (after : Option (List Step)) : Type 0 where
+  pub part : List Step
+  pub grown : after ≡ Some (old ++ part)
+  pub last : (before : Option Step) → last_heard_after before part ≡ Some (Ask Own request false true)
+
+pub record DeltaAsks (request : Request) (before after : Option (List Step)) (result : Result Page DeltaFault) : Type 0 where
+  pub last_page : IfOk result (λ page. is_last_link page.link ≡ true)
+  pub ok : IfOk result (λ page. (old : List Step) → before ≡ Some old → PageHeard request old after page)
+  pub unserved : IsErrOf result Unserved → (old : List Step) → before ≡ Some old → EndsUnserved request old after
+  pub err : OnErr result ((old : List Step) → before ≡ Some old → Grown (IsSpent request) old after)
+
+-- the counts never fall, and each end has its cause
+pub record HasDeltaCause (faults_before faults_now answers_before answers_now row_now : ℕ) (result : Result Page DeltaFault) : Type 0 where
+  pub faults_later : faults_before ≤ faults_now
+  pub answers_later : answers_before ≤ answers_now
+  pub answered : OnOk result (Rose answers_before answers_now)
+  pub failed : IsErrOf result LinkFault → RoseBy 3 faults_before faults_now
+  pub in_row : IsErrOf result LinkFault → 3 ≤ row_now
+  pub unserved : IsErrOf result Unserved → Rose answers_before answers_now
+  pub together : IsErrOf result Unserved → (replies : ℕ) × (replies ≤ 3) × RoseBy replies answers_before answers_now × RoseBy (3 - replies) faults_before faults_now
+
+-- one send
+abbrev pub Sent : Request → List Step → Option (List Step) → Result Page ℕ → Type 0
+Sent request old after (Ok page) = PageHeard request old after page
+Sent request old after (Err replies) = Spent request replies old after
+
+abbrev pub is_last_page : Result Page ℕ → Type 0
+is_last_page (Ok page) = is_last_link page.link ≡ true
+is_last_page (Err replies) = replies ≤ 1
+
+pub record SendsOnce (request : Request) (before after : Option (List Step)) {E : Type 0} (result : Result (Result Page ℕ) E) : Type 0 where
+  pub last_page : IfOk result is_last_page
+  pub ok : IfOk result (λ sent. (old : List Step) → before ≡ Some old → Sent request old after sent)
+  pub err : OnErr result ((old : List Step) → before ≡ Some old → Grown (IsSpent request) old after)
+
+-- so many sends without a page, with so many replies
+pub record HasNoPage (sends replies faults_before faults_now answers_before answers_now row_before row_now : ℕ) : Type 0 where
+  pub within : replies ≤ sends
+  pub faults : RoseBy (sends - replies) faults_before faults_now
+  pub answers : RoseBy replies answers_before answers_now
+  pub in_row : replies ≡ 0 → RoseBy sends row_before row_now
+
+abbrev pub SentCause : ℕ → ℕ → ℕ → ℕ → ℕ → ℕ → Result Page ℕ → Type 0
+SentCause faults_before faults_now answers_before answers_now row_before row_now (Ok page) = Rose answers_before answers_now
+SentCause faults_before faults_now answers_before answers_now row_before row_now (Err replies) =
+    HasNoPage 1 replies faults_before faults_now answers_before answers_now row_before row_now
+
+pub record HasSendCause (faults_before faults_now answers_before answers_now row_before row_now : ℕ) {E : Type 0} (result : Result (Result Page ℕ) E) : Type 0 where
+  pub faults_later : faults_before ≤ faults_now
+  pub answers_later : answers_before ≤ answers_now
+  pub sent : IfOk result (SentCause faults_before faults_now answers_before answers_now row_before row_now)

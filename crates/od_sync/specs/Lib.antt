@@ -1,0 +1,4 @@
+pub mod Deltas
+pub mod Pulls
+pub mod Scans
+pub mod Comparing

@@ -1,0 +1,101 @@
+ghost use Rattle.std.specs.Prelude.{◌≡◌, ◌∷◌, [], true, Some, None, IfOk, IfErr};
+ghost use Rattle.od_transfer.specs.Asking.{is_last_link, may_answer_delta};
+ghost use Rattle.od_sync.specs.Deltas.{DeltaAsks, HasDeltaCause, SendsOnce, HasSendCause, is_delta, page_in};
+
+use gd_item::{Page, Reply, Request};
+use gd_names::{NoMemory, Text};
+use od_transfer::{AskFault, Remote};
+use std::alloc::Global;
+use thiserror::Error;
+
+/// Why there is no page of changes.
+#[derive(Clone, Copy, Debug, PartialEq, Eq, Error)]
+pub enum DeltaFault {
+    #[error("three sends had no reply")]
+    LinkFault,
+    /// Some of three sends had the reply that the drive lacks memory, and the others had none.
+    #[error("the drive lacks memory")]
+    Unserved,
+    #[error("out of memory")]
+    Memory,
+}
+
+impl From<NoMemory> for DeltaFault {
+    ghost use Rattle.od_sync.specs.declared.delta.DeltaFault.TheVariants.{Memory};
+
+    ghost from_gives = { λ _ fault. fault ≡ Memory };
+
+    fn from(_error: NoMemory) -> DeltaFault {
+        DeltaFault::Memory
+    }
+}
+
+/// The page of a reply, and None where the drive lacks memory.
+fn page_in(reply: Reply) -> Option<Page>
+    requires { may_answer_delta reply ≡ true }
+    ensures { page_in reply ≡ Some result }
+{
+    match reply {
+        Reply::Page(page) => Some(page),
+        Reply::Refused { .. } => None,
+        _ => unreachable!(),
+    }
+}
+
+/// Sends a request for changes once. Without a page it says how many replies came, of which there is one at most.
+fn send_delta<R: Remote>(
+    remote: &mut R,
+    alloc: Global,
+    request: &Request,
+) -> Result<Result<Page, u64>, NoMemory>
+    requires { is_delta request.now ≡ true }
+    ensures log { SendsOnce request.now (R.log remote.old) (R.log remote.new) result }
+    ensures cause { HasSendCause (R.faults remote.old) (R.faults remote.new) (R.answers remote.old) (R.answers remote.new) (R.in_row remote.old) (R.in_row remote.new) result }
+{
+    match remote.ask(alloc, request) {
+        Ok(reply) => match page_in(reply) {
+            Some(page) => Ok(Ok(page)),
+            None => Ok(Err(1)),
+        },
+        Err(AskFault::Failed) => Ok(Err(0)),
+        Err(AskFault::Memory) => Err(NoMemory),
+    }
+}
+
+fn send_again<R: Remote>(
+    remote: &mut R,
+    alloc: Global,
+    request: &Request,
+) -> Result<Page, DeltaFault>
+    requires { is_delta request.now ≡ true }
+    ensures log { DeltaAsks request.now (R.log remote.old) (R.log remote.new) result }
+    ensures cause { HasDeltaCause (R.faults remote.old) (R.faults remote.new) (R.answers remote.old) (R.answers remote.new) (R.in_row remote.new) result }
+{
+    let mut replies: u64 = 0;
+    for _sent in 0u64..3 {
+        let sent = send_delta(remote, alloc, request)?;
+        match sent {
+            Ok(page) => return Ok(page),
+            Err(more) => replies += more,
+        }
+    }
+    if replies == 0 {
+        Err(DeltaFault::LinkFault)
+    } else {
+        Err(DeltaFault::Unserved)
+    }
+}
+
+/// Asks for the changes since a token, or for everything. The request is sent again after a failure, and where the
+/// drive lacks memory, three times in all.
+pub fn ask_delta<R: Remote>(
+    remote: &mut R,
+    alloc: Global,
+    token: Option<Text>,
+) -> Result<Page, DeltaFault>
+    ensures log { DeltaAsks (Request.Delta token) (R.log remote.old) (R.log remote.new) result }
+    ensures cause { HasDeltaCause (R.faults remote.old) (R.faults remote.new) (R.answers remote.old) (R.answers remote.new) (R.in_row remote.new) result }
+{
+    let request = Request::Delta { token };
+    send_again(remote, alloc, &request)
+}

@@ -1,0 +1,216 @@
+ghost use Rattle.std.specs.Prelude.{◌≡◌, ◌<◌, ◌++◌, ◌∷◌, [], length, IfOk};
+ghost use Rattle.std.specs.List.{All};
+ghost use Rattle.od_sync.specs.Scans.{Looks, HasScanCause};
+
+use gd_item::{Digest, digest_of};
+use gd_names::{Exact, List, NoMemory, Path, Text};
+use od_tree::{Entry, Tree, TreeFault};
+use std::alloc::{AllocError, AllocFailed, Global};
+use thiserror::Error;
+
+/// What stands at a path.
+#[derive(Clone, Copy, Debug, PartialEq, Eq)]
+pub enum Node {
+    Folder,
+    File(Digest),
+}
+
+impl Exact for Node {
+    ghost use Rattle.std.proofs.Common.{rules};
+
+    ghost exact = { Prim.search rules };
+}
+
+/// Why a scan has no end.
+#[derive(Clone, Copy, Debug, PartialEq, Eq, Error)]
+pub enum ScanFault {
+    #[error("the folder cannot be reached")]
+    Failed,
+    #[error("out of memory")]
+    Memory,
+}
+
+impl From<NoMemory> for ScanFault {
+    ghost use Rattle.od_sync.specs.declared.scanning.ScanFault.TheVariants.{Memory};
+
+    ghost from_gives = { λ _ fault. fault ≡ Memory };
+
+    fn from(_error: NoMemory) -> ScanFault {
+        ScanFault::Memory
+    }
+}
+
+impl From<AllocError> for ScanFault {
+    ghost use Rattle.od_sync.specs.declared.scanning.ScanFault.TheVariants.{Memory};
+
+    ghost from_gives = { λ _ fault. fault ≡ Memory };
+
+    fn from(_error: AllocError) -> ScanFault {
+        ScanFault::Memory
+    }
+}
+
+impl<T: Drop> From<AllocFailed<T>> for ScanFault {
+    ghost use Rattle.od_sync.specs.declared.scanning.ScanFault.TheVariants.{Memory};
+
+    ghost from_gives = { λ _ fault. fault ≡ Memory };
+
+    fn from(_error: AllocFailed<T>) -> ScanFault {
+        ScanFault::Memory
+    }
+}
+
+/// An entry that is to be looked at.
+#[derive(Debug, Drop)]
+struct Waiting {
+    path: Path,
+    folder: bool,
+    ghost is_below_root: { 0 < length path },
+}
+
+/// The digest of a file, and None where it is gone.
+fn look_at_file<T: Tree>(
+    tree: &mut T,
+    alloc: Global,
+    at: &Path,
+) -> Result<Option<Digest>, ScanFault>
+    requires { 0 < length at.now }
+    ensures log { Looks (T.log tree.old) (T.log tree.new) }
+    ensures cause { HasScanCause (T.faults tree.old) (T.faults tree.new) result }
+{
+    match tree.read(alloc, at) {
+        Ok(bytes) => Ok(Some(digest_of(bytes.as_slice()))),
+        Err(TreeFault::Missing) => Ok(None),
+        Err(TreeFault::Failed) => Err(ScanFault::Failed),
+        Err(TreeFault::Memory) => Err(ScanFault::Memory),
+        Err(TreeFault::Taken) => unreachable!(),
+        Err(TreeFault::NotEmpty) => unreachable!(),
+    }
+}
+
+/// The entries of a folder, and None where it is gone.
+fn look_at_folder<T: Tree>(
+    tree: &mut T,
+    alloc: Global,
+    at: &Path,
+) -> Result<Option<List<Entry>>, ScanFault>
+    ensures log { Looks (T.log tree.old) (T.log tree.new) }
+    ensures cause { HasScanCause (T.faults tree.old) (T.faults tree.new) result }
+{
+    match tree.list(alloc, at) {
+        Ok(entries) => Ok(Some(entries)),
+        Err(TreeFault::Missing) => Ok(None),
+        Err(TreeFault::Failed) => Err(ScanFault::Failed),
+        Err(TreeFault::Memory) => Err(ScanFault::Memory),
+        Err(TreeFault::Taken) => unreachable!(),
+        Err(TreeFault::NotEmpty) => unreachable!(),
+    }
+}
+
+/// The path of an entry of a folder.
+fn path_in(folder: &Path, name: &Text) -> Result<Path, AllocError>
+    ensures { IfOk result (λ path. path ≡ folder.now ++ name.now ∷ []) }
+{
+    let mut names = folder.clone()?.into_names();
+    match names.push(name.clone()?) {
+        Ok(()) => Ok(Path::from_names(names)),
+        Err(_) => Err(AllocError),
+    }
+}
+
+/// Lets the entries of a folder wait, the first of them on top.
+fn push_entries(
+    waiting: &mut Vec<Waiting>,
+    folder: &Path,
+    entries: &[Entry],
+) -> Result<(), NoMemory> {
+    for entry in entries.iter().rev() {
+        let path = path_in(folder, &entry.name)?;
+        waiting.push(Waiting {
+            path,
+            folder: entry.folder,
+        })?;
+    }
+    Ok(())
+}
+
+/// Scans a file, if it is still there.
+fn visit_file<T: Tree>(
+    tree: &mut T,
+    alloc: Global,
+    at: Path,
+    found: &mut Vec<(Path, Node)>,
+) -> Result<(), ScanFault>
+    requires { 0 < length at }
+    ensures log { Looks (T.log tree.old) (T.log tree.new) }
+    ensures cause { HasScanCause (T.faults tree.old) (T.faults tree.new) result }
+{
+    let digest = look_at_file(tree, alloc, &at)?;
+    match digest {
+        Some(digest) => found.push((at, Node::File(digest)))?,
+        None => {}
+    }
+    Ok(())
+}
+
+/// Scans a folder, if it is still there, and lets its entries wait.
+fn visit_folder<T: Tree>(
+    tree: &mut T,
+    alloc: Global,
+    at: Path,
+    waiting: &mut Vec<Waiting>,
+    found: &mut Vec<(Path, Node)>,
+) -> Result<(), ScanFault>
+    ensures log { Looks (T.log tree.old) (T.log tree.new) }
+    ensures cause { HasScanCause (T.faults tree.old) (T.faults tree.new) result }
+{
+    let entries = look_at_folder(tree, alloc, &at)?;
+    match entries {
+        Some(entries) => {
+            push_entries(waiting, &at, entries.as_slice())?;
+            found.push((at, Node::Folder))?;
+        }
+        None => {}
+    }
+    Ok(())
+}
+
+fn visit<T: Tree>(
+    tree: &mut T,
+    alloc: Global,
+    next: Waiting,
+    waiting: &mut Vec<Waiting>,
+    found: &mut Vec<(Path, Node)>,
+) -> Result<(), ScanFault>
+    ensures log { Looks (T.log tree.old) (T.log tree.new) }
+    ensures cause { HasScanCause (T.faults tree.old) (T.faults tree.new) result }
+{
+    let Waiting { path, folder } = next;
+    if folder {
+        visit_folder(tree, alloc, path, waiting, found)
+    } else {
+        visit_file(tree, alloc, path, found)
+    }
+}
+
+/// All entries in order of path: a folder is listed, and a file read, when its turn comes. What is gone then is left out.
+pub fn scan<T: Tree>(tree: &mut T, alloc: Global) -> Result<List<(Path, Node)>, ScanFault>
+    ensures log { Looks (T.log tree.old) (T.log tree.new) }
+    ensures cause { HasScanCause (T.faults tree.old) (T.faults tree.new) result }
+{
+    let mut found = Vec::new(alloc);
+    let mut waiting = Vec::new(alloc);
+    let root = Path::root(alloc);
+    let entries = look_at_folder(tree, alloc, &root)?;
+    match entries {
+        Some(entries) => push_entries(&mut waiting, &root, entries.as_slice())?,
+        None => {}
+    }
+    for _turn in 0..u64::MAX {
+        match waiting.pop() {
+            Some(next) => visit(tree, alloc, next, &mut waiting, &mut found)?,
+            None => return Ok(List::from_vec(found)),
+        }
+    }
+    Err(ScanFault::Memory)
+}

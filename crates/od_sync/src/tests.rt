@@ -1,0 +1,141 @@
+ghost use Rattle.std.specs.Prelude.{◌≡◌, ◌<◌, true, length, IfOk};
+ghost use Rattle.od_transfer.specs.Asking.{may_answer};
+
+use super::*;
+use gd_item::{Item, ItemId, Kind, Page, PageLink, Reply, Request, Tag};
+use gd_names::{Bytes, List, NoMemory, Path, Text};
+use od_transfer::{AskFault, Remote};
+use od_tree::{MemoryTree, Tree};
+use std::alloc::Global;
+use std::test::Fail;
+
+fn at_root(alloc: Global, name: &str) -> Result<Path, NoMemory>
+    ensures { IfOk result (λ path. 0 < length path) }
+{
+    let mut names = List::new(alloc);
+    names.push(Text::from_str(alloc, name)?)?;
+    Ok(Path::from_names(names))
+}
+
+fn in_folder(alloc: Global, folder: &str, name: &str) -> Result<Path, NoMemory>
+    ensures { IfOk result (λ path. 0 < length path) }
+{
+    let mut names = List::new(alloc);
+    names.push(Text::from_str(alloc, folder)?)?;
+    names.push(Text::from_str(alloc, name)?)?;
+    Ok(Path::from_names(names))
+}
+
+/// What is scanned is in order of path: what a folder has comes before what follows it.
+#[test]
+fn scanned(rt: HostRuntime) -> Result<(), Fail> {
+    let alloc = rt.alloc();
+    let mut tree = MemoryTree::new(alloc, List::new(alloc), List::new(alloc));
+    tree.place(&at_root(alloc, "e")?, b"e")?;
+    tree.make_dir(&at_root(alloc, "d")?)?;
+    tree.place(&in_folder(alloc, "d", "f")?, b"abc")?;
+    let found = scan(&mut tree, alloc)?;
+    assert_eq!(rt; found.as_slice().len(), 3);
+    assert_eq!(rt; found.as_slice()[0], (at_root(alloc, "d")?, Node::Folder));
+    assert_eq!(rt; found.as_slice()[1].0, in_folder(alloc, "d", "f")?);
+    assert_eq!(rt; found.as_slice()[1].1, Node::File(gd_item::digest_of(b"abc")));
+    assert_eq!(rt; found.as_slice()[2].0, at_root(alloc, "e")?);
+    Ok(())
+}
+
+/// A drive without items, of which nothing is told. It lacks memory at its first requests.
+#[derive(Debug, Drop)]
+struct Empty {
+    wanting: u64,
+    answers: u64,
+}
+
+fn root(alloc: Global) -> Result<Item, NoMemory> {
+    Ok(Item {
+        id: ItemId(1),
+        parent: None,
+        parent_path: None,
+        name: Text::from_str(alloc, "root")?,
+        size: 0,
+        etag: Tag(Text::from_str(alloc, "e1")?),
+        ctag: None,
+        kind: Kind::Folder { child_count: 0 },
+    })
+}
+
+fn last_page(alloc: Global) -> Result<Reply, NoMemory>
+    ensures { (token : _) → IfOk result (λ reply. may_answer (Request.Delta token) reply ≡ true) }
+{
+    let mut items = List::new(alloc);
+    items.push(root(alloc)?)?;
+    let link = PageLink::Delta(Text::from_str(alloc, "t1.1.1")?);
+    Ok(Reply::Page(Page { items, link }))
+}
+
+fn reply_to(alloc: Global, request: &Request, wanting: bool) -> Result<Reply, NoMemory>
+    ensures { IfOk result (λ reply. may_answer request.now reply ≡ true) }
+{
+    if wanting {
+        return Ok(Reply::Refused {
+            status: 503,
+            code: gd_item::ErrorCode::GeneralException,
+        });
+    }
+    match request {
+        Request::Delta { .. } => last_page(alloc),
+        _ => Ok(Reply::Refused {
+            status: 404,
+            code: gd_item::ErrorCode::ItemNotFound,
+        }),
+    }
+}
+
+impl Remote for Empty {
+    ghost use Rattle.std.specs.Prelude.{None};
+
+    ghost log = { λ r. None };
+
+    ghost faults = { λ r. 0 };
+
+    ghost answers = { λ r. r.answers };
+
+    ghost in_row = { λ r. 0 };
+
+    fn ask(&mut self, alloc: Global, request: &Request) -> Result<Reply, AskFault> {
+        match reply_to(alloc, request, self.wanting > 0) {
+            Ok(reply) => {
+                self.wanting = self.wanting.saturating_sub(1);
+                self.answers = self.answers.saturating_add(1);
+                Ok(reply)
+            }
+            Err(NoMemory) => Err(AskFault::Memory),
+        }
+    }
+}
+
+/// A drive that lacks memory is asked three times.
+#[test]
+fn pulled(rt: HostRuntime) -> Result<(), Fail> {
+    let alloc = rt.alloc();
+    let mut drive = Empty { wanting: 2, answers: 0 };
+    let view = pull(&mut drive, alloc, List::new(alloc), None)?;
+    assert_eq!(rt; view.token.as_str(), "t1.1.1");
+    assert_eq!(rt; view.items.as_slice().len(), 1);
+    assert_eq!(rt; is_same(&[], view.paths(alloc)?.as_slice()), true);
+    let mut wanting = Empty { wanting: 3, answers: 0 };
+    match pull(&mut wanting, alloc, List::new(alloc), None) {
+        Ok(_) => assert_eq!(rt; true, false),
+        Err(stop) => assert_eq!(rt; stop, PullStop::Unserved),
+    }
+    Ok(())
+}
+
+/// The page of the first reply is given.
+#[test]
+fn asked(rt: HostRuntime) -> Result<(), Fail> {
+    let alloc = rt.alloc();
+    let mut drive = Empty { wanting: 0, answers: 0 };
+    let page = ask_delta(&mut drive, alloc, None)?;
+    assert_eq!(rt; page.items.as_slice().len(), 1);
+    Ok(())
+}

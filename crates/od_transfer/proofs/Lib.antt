@@ -1,0 +1,4 @@
+pub mod Logs
+pub mod Repeats
+pub mod Fetches
+pub mod Zipped

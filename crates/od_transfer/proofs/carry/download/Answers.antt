@@ -1,0 +1,20 @@
+use Rattle.std.proofs.Common.{refl}
+use Rattle.gd_item.specs.declared.request.Request.TheVariants.{Download}
+use Rattle.od_transfer.specs.Fits.{content_in}
+use Rattle.od_transfer.proofs.Fetches.{digest_of_reply, heard_transfer, unheard_transfer}
+use Rattle.od_transfer.proofs.carry.download.Goals as goal
+
+pub returns-in-Ok-clause-fits : goal.returns-in-Ok-clause-fits
+returns-in-Ok-clause-fits g c = digest_of_reply c.args.digest (content_in c.in-Ok.reply) c.downloaded.result c.downloaded.ensures
+
+pub returns-in-Ok-clause-log : goal.returns-in-Ok-clause-log
+returns-in-Ok-clause-log g c =
+    heard_transfer (Download c.args.id c.args.version) c.in-Ok.reply (g.R.Remote.log c.args.remote.now) (g.R.Remote.log c.send_thrice.new.remote) refl c.in-Ok.ensures.log
+
+pub returns-in-Err-Failed-clause-log : goal.returns-in-Err-Failed-clause-log
+returns-in-Err-Failed-clause-log g c =
+    unheard_transfer (Download c.args.id c.args.version) c.in-Err-Failed.field-0 (g.R.Remote.log c.args.remote.now) (g.R.Remote.log c.send_thrice.new.remote) refl c.in-Err-Failed.ensures.log
+
+pub returns-in-Err-Memory-clause-log : goal.returns-in-Err-Memory-clause-log
+returns-in-Err-Memory-clause-log g c =
+    unheard_transfer (Download c.args.id c.args.version) c.in-Err-Memory.field-0 (g.R.Remote.log c.args.remote.now) (g.R.Remote.log c.send_thrice.new.remote) refl c.in-Err-Memory.ensures.log

@@ -1,0 +1,38 @@
+ghost use Rattle.std.specs.Prelude.{◌≡◌, ℕ, true, List, Option, IfOk};
+
+use gd_item::{Reply, Request};
+use std::alloc::Global;
+use thiserror::Error;
+
+/// Why a request has no reply.
+#[derive(Clone, Copy, Debug, PartialEq, Eq, Error)]
+pub enum AskFault {
+    #[error("no reply came")]
+    Failed,
+    #[error("out of memory")]
+    Memory,
+}
+
+/// A drive, as a client sees it.
+pub trait Remote {
+    ghost use Rattle.gd_item.specs.declared.step.Step.{Step};
+    ghost use Rattle.od_transfer.specs.Asking.{Asks, HasAskCause, may_answer};
+
+    /// What the drive was asked and what befell it, where it is told.
+    ghost log: { Self → Option (List Step) };
+
+    /// How often no reply came, up to the last value of a u64.
+    ghost faults: { Self → ℕ };
+
+    /// How often a reply came, up to the last value of a u64.
+    ghost answers: { Self → ℕ };
+
+    /// How often no reply came since the last one, up to the last value of a u64.
+    ghost in_row: { Self → ℕ };
+
+    /// Sends one request.
+    fn ask(&mut self, alloc: Global, request: &Request) -> Result<Reply, AskFault>
+        ensures log { Asks request.now (log self.old) (log self.new) result }
+        ensures kind { IfOk result (λ reply. may_answer request.now reply ≡ true) }
+        ensures cause { HasAskCause (faults self.old) (faults self.new) (answers self.old) (answers self.new) (in_row self.old) (in_row self.new) result };
+}
