@@ -9,7 +9,8 @@ use Rattle.gd_item.specs.declared.live.LiveItem.{LiveItem}
 use Rattle.gd_item.specs.Inventory.{Inventory}
 use Rattle.gd_item.specs.Sound.{IsItemMap}
 use Rattle.gd_item.specs.Trees.{tree_of, in_order}
-use Rattle.od_mirror.specs.Drive.{records_of, placed_items}
+use Rattle.gd_item.specs.Records.{records_of}
+use Rattle.od_mirror.specs.Drive.{placed_items}
 use Rattle.od_mirror.specs.Pulled.{paths_of}
 use Rattle.od_mirror.proofs.Standing.{paths-of-placed, tree-of-placed}
 use Rattle.od_sync.specs.Comparing.{is_same, is_same_entry, is_same_node, node_of, scanned, is_bytes, is_content, NoCollision}

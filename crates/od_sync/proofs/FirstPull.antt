@@ -20,7 +20,7 @@ use Rattle.gd_item.specs.declared.reply.Reply.TheVariants as reply
 use Rattle.gd_item.specs.declared.request.Request.TheVariants.{Delta}
 use Rattle.gd_item.specs.declared.step.Step.{Step}
 use Rattle.gd_item.specs.Sound.{IsItemMap}
-use Rattle.od_mirror.specs.Drive.{records_of}
+use Rattle.gd_item.specs.Records.{records_of}
 use Rattle.od_mirror.specs.Pulled.{nodes, IsLeastBad, begun, after_page, after_link, with_records}
 use Rattle.od_transfer.specs.Asking.{is_last_link}
 use Rattle.od_mirror.proofs.Feed.{feed-from-start}

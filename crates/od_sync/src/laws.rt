@@ -7,7 +7,7 @@ ghost use Rattle.od_sync.specs.Comparing.{is_same, scanned, NoCollision};
 ghost use Rattle.gd_item.specs.Steps.{held_by};
 ghost use Rattle.gd_item.specs.Sound.{IsItemMap};
 ghost use Rattle.gd_item.specs.declared.step.Step.{Step};
-ghost use Rattle.od_mirror.specs.Drive.{records_of};
+ghost use Rattle.gd_item.specs.Records.{records_of};
 ghost use Rattle.od_mirror.specs.declared.view.MirrorView.{MirrorView};
 ghost use Rattle.od_sync.specs.Pulls.{PullsView, PullsBad, seen, token_then};
 
