@@ -24,19 +24,26 @@ Refuses call before after fault =
     (old : List LocalStep) → before ≡ Some old
     → (edits : List UserEdit) × (after ≡ Some (edited old edits)) × (op_refusal (local_of (edited old edits)) call ≡ Some fault)
 
+-- nothing is done: the log grows by edits alone
+abbrev pub GrowsByEdits : Option (List LocalStep) → Option (List LocalStep) → Type 0
+GrowsByEdits before after =
+    (old : List LocalStep) → before ≡ Some old → (edits : List UserEdit) × (after ≡ Some (edited old edits))
+
 -- the log grows by edits, and then by the operation or not
 abbrev pub MayGrow : TreeOp → Option (List LocalStep) → Option (List LocalStep) → Type 0
 MayGrow call before after =
     (old : List LocalStep) → before ≡ Some old
     → (edits : List UserEdit) × ((after ≡ Some (edited old edits)) ⊎ (after ≡ Some (with_op old edits call)))
 
--- what a call does to the log where it is told; the value is that of the folder right before the operation
+-- what a call does to the log where it is told; the value is that of the folder right before the operation. A call that
+-- failed may have done it
 pub record Calls {T : Type 0} (call : TreeOp) (Value : Local → T → Type 0) (before after : Option (List LocalStep)) (result : Result T TreeFault) : Type 0 where
   pub ok : IfOk result (λ x. (old : List LocalStep) → before ≡ Some old
       → (edits : List UserEdit) × (after ≡ Some (with_op old edits call)) × (op_refusal (local_of (edited old edits)) call ≡ None) × Value (local_of (edited old edits)) x)
   pub taken : IsErrOf result Taken → Refuses call before after Taken
   pub missing : IsErrOf result Missing → Refuses call before after Missing
   pub not_empty : IsErrOf result NotEmpty → Refuses call before after NotEmpty
+  pub memory : IsErrOf result Memory → GrowsByEdits before after
   pub err : OnErr result (MayGrow call before after)
 
 -- the refusals that an operation has at all; the root is always there to be listed
