@@ -18,12 +18,12 @@ use Rattle.gd_item.specs.declared.request.Request.TheVariants.{Delta}
 use Rattle.gd_item.specs.declared.step.Step.{Step}
 use Rattle.gd_item.specs.declared.step.Step.TheVariants.{Ask, Event}
 use Rattle.gd_item.specs.declared.step.Who.TheVariants.{Own, Other}
-use Rattle.od_transfer.specs.Asking.{Asks, IsSuch, Never, ByOthers, Grown, Heard, given, may_answer, is_last_link}
+use Rattle.od_transfer.specs.Asking.{Asks, IsSuch, Never, ByOthers, Grown, Grows, Heard, given, may_answer, is_last_link}
 use Rattle.od_transfer.specs.declared.remote.AskFault.{AskFault}
 use Rattle.od_sync.specs.declared.delta.DeltaFault.{DeltaFault}
 use Rattle.od_sync.specs.declared.delta.DeltaFault.TheVariants.{LinkFault, Unserved, Memory}
-use Rattle.od_transfer.proofs.Logs.{such-others, such-append, grown-then}
-use Rattle.od_sync.specs.Deltas.{is_delta, DeltaAsks, page_in, last_heard_after, heard_step, IsSpent, Spent, PageHeard, EndsUnserved, SendsOnce, Sent, is_last_page}
+use Rattle.od_transfer.proofs.Logs.{such-others, such-also, such-append, grown-also, grown-then}
+use Rattle.od_sync.specs.Deltas.{IsAskedWith, is_delta, DeltaAsks, page_in, last_heard_after, heard_step, IsSpent, Spent, PageHeard, EndsUnserved, SendsOnce, Sent, is_last_page}
 
 -- ---- what a drive answers that is asked for changes
 delta_given : State → ℕ → Asked → Reply
@@ -223,3 +223,25 @@ asks-unserved request a before after some all = record {
   unserved = λ _ old told. spent-asks request a old after some (all old told);
   err = λ old told. spent-grown request a old after (all old told);
 }
+
+-- whatever the end, the requests were for these changes
+asked-with : (token : Option (List ℕ)) (sent : Request) (served heard : Bool) → IsSpent (Delta token) sent served heard → IsAskedWith token sent served heard
+asked-with token sent served heard spent = spent.0
+
+page-grown : (token : Option (List ℕ)) (old : List Step) (after : Option (List Step)) (page : Page) → PageHeard (Delta token) old after page → Grown (IsAskedWith token) old after
+page-grown token old after page h = record {
+  part = h.part ++ Ask Own (Delta token) true true ∷ [];
+  such = such-append (IsAskedWith token) h.part (Ask Own (Delta token) true true ∷ []) (such-also (IsSpent (Delta token)) (IsAskedWith token) (asked-with token) h.part h.such) (refl, tt);
+  grown = h.grown ∙ ap (λ log. Some log) (append_assoc old h.part (Ask Own (Delta token) true true ∷ []));
+}
+
+pub delta-grows : (token : Option (List ℕ)) (result : Result Page DeltaFault) (before after : Option (List Step)) → DeltaAsks (Delta token) before after result → Grows (IsAskedWith token) before after
+delta-grows token (Ok page) before after asks = record { told = λ old told. page-grown token old after page (asks.ok old told) }
+delta-grows token (Err fault) before after asks =
+    record { told = λ old told. grown-also (IsSpent (Delta token)) (IsAskedWith token) (asked-with token) old after (asks.err old told) }
+
+pub not-asked : (token : Option (List ℕ)) (log : Option (List Step)) → Grows (IsAskedWith token) log log
+not-asked token log = record { told = λ old told. record { part = []; such = tt; grown = told ∙ ap (λ log. Some log) (sym (append-nil old)) } }
+
+pub asked-same : (asked token : Option (List ℕ)) (before after : Option (List Step)) → asked ≡ token → Grows (IsAskedWith asked) before after → Grows (IsAskedWith token) before after
+asked-same asked token before after same grows = subst (λ t. Grows (IsAskedWith t) before after) same grows

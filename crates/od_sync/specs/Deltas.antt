@@ -108,3 +108,7 @@ pub record HasSendCause (faults_before faults_now answers_before answers_now row
   pub faults_later : faults_before ≤ faults_now
   pub answers_later : answers_before ≤ answers_now
   pub sent : IfOk result (SentCause faults_before faults_now answers_before answers_now row_before row_now)
+
+-- requests for changes since a token, or for everything
+abbrev pub IsAskedWith : Option (List ℕ) → Request → Bool → Bool → Type 0
+IsAskedWith token request served heard = request ≡ Delta token

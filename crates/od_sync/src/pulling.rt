@@ -2,7 +2,8 @@ ghost use Rattle.std.specs.Prelude.{◌≡◌, ℕ, true, IfOk, IsErrOf};
 ghost use Rattle.std.specs.Map.{values_of};
 ghost use Rattle.gd_item.specs.Ids.{item_id};
 ghost use Rattle.od_mirror.specs.Pulled.{after_page, nodes, AllFit, IsLeastBad};
-ghost use Rattle.od_transfer.specs.Asking.{is_last_link};
+ghost use Rattle.od_transfer.specs.Asking.{Grows, is_last_link};
+ghost use Rattle.od_sync.specs.Deltas.{IsAskedWith};
 ghost use Rattle.od_sync.specs.Pulls.{IsView, Pulls, StopsBad, StopsUnserved, HasPullCause};
 
 use crate::delta::{DeltaFault, ask_delta};
@@ -71,6 +72,7 @@ pub fn pull<R: Remote>(
     ensures fit { IfOk result (λ view. AllFit (nodes view.items)) }
     ensures bad { (n : ℕ) → IsErrOf result (PullStop.BadPages (item_id n)) → StopsBad items token (R.log remote.old) (R.log remote.new) n }
     ensures unserved { IsErrOf result PullStop.Unserved → StopsUnserved token (R.log remote.old) (R.log remote.new) }
+    ensures grows { Grows (IsAskedWith token) (R.log remote.old) (R.log remote.new) }
     ensures cause { HasPullCause (R.faults remote.old) (R.faults remote.new) (R.answers remote.old) (R.answers remote.new) (R.in_row remote.new) result }
 {
     let mirror = Mirror::start(alloc, items, token)?;

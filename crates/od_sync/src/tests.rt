@@ -34,12 +34,13 @@ fn scanned(rt: HostRuntime) -> Result<(), Fail> {
     tree.place(&at_root(alloc, "e")?, b"e")?;
     tree.make_dir(&at_root(alloc, "d")?)?;
     tree.place(&in_folder(alloc, "d", "f")?, b"abc")?;
-    let found = scan(&mut tree, alloc)?;
-    assert_eq!(rt; found.as_slice().len(), 3);
-    assert_eq!(rt; found.as_slice()[0], (at_root(alloc, "d")?, Node::Folder));
-    assert_eq!(rt; found.as_slice()[1].0, in_folder(alloc, "d", "f")?);
-    assert_eq!(rt; found.as_slice()[1].1, Node::File(gd_item::digest_of(b"abc")));
-    assert_eq!(rt; found.as_slice()[2].0, at_root(alloc, "e")?);
+    let mut found = scan(&mut tree, alloc)?;
+    let abc = Node::File(gd_item::digest_of(b"abc"));
+    let e = Node::File(gd_item::digest_of(b"e"));
+    assert_eq!(rt; found.pop(), Some((at_root(alloc, "e")?, e)));
+    assert_eq!(rt; found.pop(), Some((in_folder(alloc, "d", "f")?, abc)));
+    assert_eq!(rt; found.pop(), Some((at_root(alloc, "d")?, Node::Folder)));
+    assert_eq!(rt; found.pop(), None);
     Ok(())
 }
 
@@ -117,12 +118,18 @@ impl Remote for Empty {
 #[test]
 fn pulled(rt: HostRuntime) -> Result<(), Fail> {
     let alloc = rt.alloc();
-    let mut drive = Empty { wanting: 2, answers: 0 };
+    let mut drive = Empty {
+        wanting: 2,
+        answers: 0,
+    };
     let view = pull(&mut drive, alloc, List::new(alloc), None)?;
     assert_eq!(rt; view.token.as_str(), "t1.1.1");
     assert_eq!(rt; view.items.as_slice().len(), 1);
     assert_eq!(rt; is_same(&[], view.paths(alloc)?.as_slice()), true);
-    let mut wanting = Empty { wanting: 3, answers: 0 };
+    let mut wanting = Empty {
+        wanting: 3,
+        answers: 0,
+    };
     match pull(&mut wanting, alloc, List::new(alloc), None) {
         Ok(_) => assert_eq!(rt; true, false),
         Err(stop) => assert_eq!(rt; stop, PullStop::Unserved),
@@ -134,7 +141,10 @@ fn pulled(rt: HostRuntime) -> Result<(), Fail> {
 #[test]
 fn asked(rt: HostRuntime) -> Result<(), Fail> {
     let alloc = rt.alloc();
-    let mut drive = Empty { wanting: 0, answers: 0 };
+    let mut drive = Empty {
+        wanting: 0,
+        answers: 0,
+    };
     let page = ask_delta(&mut drive, alloc, None)?;
     assert_eq!(rt; page.items.as_slice().len(), 1);
     Ok(())

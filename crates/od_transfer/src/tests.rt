@@ -3,8 +3,8 @@ ghost use Rattle.od_transfer.specs.Asking.{may_answer};
 
 use super::*;
 use gd_item::{ErrorCode, ItemId, Reply, Request, digest_of};
-use gd_names::{Bytes, List};
-use std::alloc::Global;
+use gd_names::{Bytes, List, NoMemory};
+use std::alloc::{AllocError, Global};
 use std::test::Fail;
 
 /// A drive with one file, of which nothing is told and whose first requests are lost.
@@ -18,20 +18,17 @@ struct OneFile {
 }
 
 impl OneFile {
-    fn new(alloc: Global, lost: u64) -> Result<OneFile, AskFault> {
-        match Bytes::from_slice(alloc, b"abc") {
-            Ok(bytes) => Ok(OneFile {
-                bytes,
-                lost,
-                faults: 0,
-                answers: 0,
-                failures: 0,
-            }),
-            Err(_) => Err(AskFault::Memory),
-        }
+    fn new(alloc: Global, lost: u64) -> Result<OneFile, NoMemory> {
+        Ok(OneFile {
+            bytes: Bytes::from_slice(alloc, b"abc")?,
+            lost,
+            faults: 0,
+            answers: 0,
+            failures: 0,
+        })
     }
 
-    fn reply_to(&self, request: &Request) -> Result<Reply, AskFault>
+    fn reply_to(&self, request: &Request) -> Result<Reply, AllocError>
         ensures { IfOk result (λ reply. may_answer request.now reply ≡ true) }
     {
         match request {
@@ -39,10 +36,7 @@ impl OneFile {
                 id: ItemId(2),
                 version: 2,
             }),
-            Request::Download { .. } => match self.bytes.clone() {
-                Ok(bytes) => Ok(Reply::Content(bytes)),
-                Err(_) => Err(AskFault::Memory),
-            },
+            Request::Download { .. } => Ok(Reply::Content(self.bytes.clone()?)),
             Request::Delta { .. } => Ok(Reply::Refused {
                 status: 503,
                 code: ErrorCode::GeneralException,
@@ -76,13 +70,13 @@ impl Remote for OneFile {
                 self.failures = 0;
                 Ok(reply)
             }
-            Err(fault) => Err(fault),
+            Err(_) => Err(AskFault::Memory),
         }
     }
 }
 
 /// The outcome of one fetch of bytes with the digest of these, after so many lost requests.
-fn outcome(alloc: Global, bytes: &[u8], lost: u64) -> Result<List<Outcome>, Fail> {
+fn outcome(alloc: Global, bytes: &[u8], lost: u64) -> Result<Option<Outcome>, Fail> {
     let mut remote = OneFile::new(alloc, lost)?;
     let mut jobs = List::new(alloc);
     jobs.push(Job::Fetch {
@@ -90,7 +84,7 @@ fn outcome(alloc: Global, bytes: &[u8], lost: u64) -> Result<List<Outcome>, Fail
         digest: digest_of(bytes),
         size: 3,
     })?;
-    Ok(carry_each(&mut remote, alloc, &jobs)?)
+    Ok(carry_each(&mut remote, alloc, &jobs)?.pop())
 }
 
 /// Bytes are fetched whose digest is the job's, after two lost requests too; three lost ones end it.
@@ -98,11 +92,9 @@ fn outcome(alloc: Global, bytes: &[u8], lost: u64) -> Result<List<Outcome>, Fail
 fn fetched(rt: HostRuntime) -> Result<(), Fail> {
     let alloc = rt.alloc();
     let bytes = Bytes::from_slice(alloc, b"abc")?;
-    let found = outcome(alloc, b"abc", 2)?;
-    assert_eq!(rt; found.as_slice().len(), 1);
-    assert_eq!(rt; found.as_slice()[0], Outcome::Fetched(bytes));
-    assert_eq!(rt; outcome(alloc, b"abd", 0)?.as_slice()[0], Outcome::Changed);
-    assert_eq!(rt; outcome(alloc, b"abc", 3)?.as_slice()[0], Outcome::Lost);
+    assert_eq!(rt; outcome(alloc, b"abc", 2)?, Some(Outcome::Fetched(bytes)));
+    assert_eq!(rt; outcome(alloc, b"abd", 0)?, Some(Outcome::Changed));
+    assert_eq!(rt; outcome(alloc, b"abc", 3)?, Some(Outcome::Lost));
     Ok(())
 }
 
@@ -111,7 +103,14 @@ fn fetched(rt: HostRuntime) -> Result<(), Fail> {
 fn sent_again(rt: HostRuntime) -> Result<(), Fail> {
     let alloc = rt.alloc();
     let mut remote = OneFile::new(alloc, 1)?;
-    let reply = ask_thrice(&mut remote, alloc, &Request::Download { id: ItemId(2), version: 2 })?;
+    let reply = ask_thrice(
+        &mut remote,
+        alloc,
+        &Request::Download {
+            id: ItemId(2),
+            version: 2,
+        },
+    )?;
     assert_eq!(rt; reply, Reply::Content(Bytes::from_slice(alloc, b"abc")?));
     let reply = send_thrice(&mut remote, alloc, Request::SessionStatus { session: 1 })?;
     assert_eq!(rt; reply, Reply::Done);
