@@ -1,5 +1,5 @@
 ghost use Rattle.std.specs.Prelude.{◌≡◌, ◌<◌, true, length, IfOk};
-ghost use Rattle.od_transfer.specs.Asking.{may_answer};
+ghost use Rattle.od_transfer.specs.Asking.{is_last_link, may_answer};
 
 use super::*;
 use gd_item::{Item, ItemId, Kind, Page, PageLink, Reply, Request, Tag};
@@ -64,13 +64,13 @@ fn root(alloc: Global) -> Result<Item, NoMemory> {
     })
 }
 
-fn last_page(alloc: Global) -> Result<Reply, NoMemory>
-    ensures { (token : _) → IfOk result (λ reply. may_answer (Request.Delta token) reply ≡ true) }
+fn last_page(alloc: Global) -> Result<Page, NoMemory>
+    ensures { IfOk result (λ page. is_last_link page.link ≡ true) }
 {
     let mut items = List::new(alloc);
     items.push(root(alloc)?)?;
     let link = PageLink::Delta(Text::from_str(alloc, "t1.1.1")?);
-    Ok(Reply::Page(Page { items, link }))
+    Ok(Page { items, link })
 }
 
 fn reply_to(alloc: Global, request: &Request, wanting: bool) -> Result<Reply, NoMemory>
@@ -83,7 +83,7 @@ fn reply_to(alloc: Global, request: &Request, wanting: bool) -> Result<Reply, No
         });
     }
     match request {
-        Request::Delta { .. } => last_page(alloc),
+        Request::Delta { .. } => Ok(Reply::Page(last_page(alloc)?)),
         _ => Ok(Reply::Refused {
             status: 404,
             code: gd_item::ErrorCode::ItemNotFound,
