@@ -51,6 +51,39 @@ fn feed(alloc: Global, drive: &mut Drive, token: &str) -> Result<u16, Fail> {
     Ok(status_of(drive, &Request::Delta { token }))
 }
 
+/// The status with which a session is not begun.
+fn begin(drive: &mut Drive) -> u16 {
+    let request = Request::OpenSession {
+        at: Address::Id(ItemId(3)),
+        name: None,
+        behaviour: Conflict::Fail,
+        condition: Condition::Free,
+    };
+    status_of(drive, &request)
+}
+
+/// The status with which a fragment is not received.
+fn send(alloc: Global, drive: &mut Drive) -> Result<u16, Fail> {
+    let request = Request::Fragment {
+        session: 1,
+        first: 0,
+        last: 0,
+        total: 1,
+        bytes: Bytes::from_slice(alloc, b"1")?,
+    };
+    Ok(status_of(drive, &request))
+}
+
+/// The status with which a session is not described.
+fn ask(drive: &mut Drive) -> u16 {
+    status_of(drive, &Request::SessionStatus { session: 1 })
+}
+
+/// The status with which a session is not cancelled.
+fn cancel(drive: &mut Drive) -> u16 {
+    status_of(drive, &Request::CancelSession { session: 1 })
+}
+
 #[test]
 fn refused_items(rt: HostRuntime) -> Result<(), Fail> {
     let alloc = rt.alloc();
@@ -136,24 +169,9 @@ fn refused_tokens(rt: HostRuntime) -> Result<(), Fail> {
 fn refused_sessions(rt: HostRuntime) -> Result<(), Fail> {
     let alloc = rt.alloc();
     let mut drive = filled_drive(alloc)?;
-    let opening = Request::OpenSession {
-        at: Address::Id(ItemId(3)),
-        name: None,
-        behaviour: Conflict::Fail,
-        condition: Condition::Free,
-    };
-    assert_eq!(rt; status_of(&mut drive, &opening), 405);
-    let fragment = Request::Fragment {
-        session: 1,
-        first: 0,
-        last: 0,
-        total: 1,
-        bytes: Bytes::from_slice(alloc, b"1")?,
-    };
-    assert_eq!(rt; status_of(&mut drive, &fragment), 405);
-    let status = Request::SessionStatus { session: 1 };
-    assert_eq!(rt; status_of(&mut drive, &status), 405);
-    let cancelling = Request::CancelSession { session: 1 };
-    assert_eq!(rt; status_of(&mut drive, &cancelling), 405);
+    assert_eq!(rt; begin(&mut drive), 405);
+    assert_eq!(rt; send(alloc, &mut drive)?, 405);
+    assert_eq!(rt; ask(&mut drive), 405);
+    assert_eq!(rt; cancel(&mut drive), 405);
     Ok(())
 }
