@@ -6,6 +6,7 @@ mod delta;
 mod laws;
 mod pulling;
 mod scanning;
+mod waiting;
 #[cfg(test)]
 mod tests;
 
