@@ -1,9 +1,8 @@
 -- What stands at and below a path, in a list of entries in order of path.
-use Rattle.std.proofs.Common.{◌≡◌, ℕ, ◌+◌, ◌⊎◌, inl, inr, Bool, true, false, not, ◌&&◌, cond, List, [], ◌∷◌, ◌++◌, length, take, nat_eq, refl, ap, sym, subst, ◌∙◌, append_assoc, arith}
-use Rattle.std.proofs.lemmas.List.{append-nil}
+use Rattle.std.proofs.Common.{◌≡◌, ℕ, ◌+◌, ◌⊎◌, inl, inr, Bool, true, false, not, ◌&&◌, cond, List, [], ◌∷◌, ◌++◌, length, nat_eq, refl, ap, sym, subst, ◌∙◌, arith}
 use Rattle.std.proofs.lemmas.Bool.{eq-eqb, eqb-true}
 use Rattle.std.specs.Cmp.Lexicographic.{pointwise, slice_cmp, same_text, nat_list_cmp_total}
-use Rattle.std.specs.List.{AllByRecursion, filter}
+use Rattle.std.specs.List.{AllByRecursion}
 use Rattle.std.specs.Ordering.{nat_cmp, ordering_then}
 use Rattle.std.specs.declared.cmp.Ordering.{Ordering}
 use Rattle.std.specs.declared.cmp.Ordering.TheVariants.{Less, Equal, Greater}
@@ -13,7 +12,7 @@ use Rattle.gd_item.specs.Trees.{path_cmp}
 use Rattle.od_tree.specs.Local.{is_path, is_from}
 use Rattle.od_tree.specs.Listing.{is_right_below}
 use Rattle.od_sync.proofs.Compared.{both, same-path, text-self}
-use Rattle.od_sync.proofs.InOrder.{Path, Above, Rises, In, kept, all-in, all-kept, rises-kept, exact-paths, paths-total}
+use Rattle.od_sync.proofs.InOrder.{Path, Above, Rises, In, kept, all-in, rises-kept, paths-total}
 
 abbrev pub is_below : Path → Path → Bool
 is_below top path = is_from top path && not (is_path top path)

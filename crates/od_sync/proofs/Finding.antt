@@ -1,5 +1,5 @@
 -- What a scan has found so far, over its calls of the folder.
-use Rattle.std.proofs.Common.{◌≡◌, ℕ, Bool, List, [], ◌∷◌, ◌++◌, ◌-◌, take, map, Option, Some, refl, ap, sym, subst, ◌∙◌}
+use Rattle.std.proofs.Common.{◌≡◌, ℕ, List, [], ◌∷◌, ◌++◌, ◌-◌, take, Option, ap, subst, ◌∙◌}
 use Rattle.std.proofs.lemmas.List.{append-nil, map-append}
 use Rattle.od_tree.specs.Local.{local_of}
 use Rattle.od_tree.specs.declared.local.Spot.{Spot}
@@ -32,9 +32,12 @@ pub goes-last : (found result : List (List (List ℕ) × Node)) (waiting : List 
     → Sees (Goes found (turns waiting)) before after → Finds before after result
 goes-last found result waiting before after empty same goes = record {
   told = λ old told.
-      let seen = goes.told old told in
-      (seen.part, seen.grown, λ alone tree. same ∙ ends (local_of old).spots tree found
-      (subst (λ (w : List Waiting). Going (local_of old).spots found (turns w)) empty (seen.fact alone tree)));
+      let seen = goes.told old told in (
+        seen.part,
+        seen.grown,
+        λ alone tree. same ∙ ends (local_of old).spots tree found
+            (subst (λ (w : List Waiting). Going (local_of old).spots found (turns w)) empty (seen.fact alone tree)),
+      );
 }
 
 pub none-left : (waiting popped : List Waiting) (size : ℕ) → waiting ≡ popped ++ [] → popped ≡ take (size - 1) waiting → size ≡ 0 → waiting ≡ []

@@ -21,7 +21,7 @@ use Rattle.od_tree.specs.declared.step.LocalStep.{LocalStep}
 use Rattle.od_tree.specs.declared.step.LocalStep.TheVariants.{User, Op}
 use Rattle.od_tree.specs.declared.step.TreeOp.{TreeOp}
 use Rattle.od_sync.specs.Scans.{IsLook, Looked, Looks, IsOp, NoUser}
-use Rattle.od_sync.specs.Visits.{Seen, Sees, Turn, Visits, digest_at, listing_at, found_file, found_folder, pushed, pushed_if}
+use Rattle.od_sync.specs.Visits.{Sees, Turn, Visits, digest_at, listing_at, found_file, found_folder, pushed, pushed_if}
 use Rattle.od_sync.specs.declared.scanning.Node.{Node}
 use Rattle.od_sync.specs.declared.scanning.Node.TheVariants.{Folder, File}
 

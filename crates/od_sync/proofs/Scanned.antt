@@ -1,7 +1,7 @@
 -- A scan of a folder that the user leaves alone finds its tree: what is found so far, and what stands at and below the paths
 -- that wait, are the whole of it.
-use Rattle.std.proofs.Common.{◌≡◌, ℕ, ◌+◌, ◌⊎◌, inl, inr, Bool, true, false, not, ◌&&◌, cond, List, [], ◌∷◌, ◌++◌, length, map, is_none, Option, Some, None, refl, ap, sym, subst, ◌∙◌, append_assoc}
-use Rattle.std.proofs.lemmas.List.{append-nil, map-append}
+use Rattle.std.proofs.Common.{◌≡◌, ℕ, ◌+◌, inl, inr, Bool, true, false, not, ◌&&◌, cond, List, [], ◌∷◌, ◌++◌, length, map, is_none, Option, Some, None, refl, ap, sym, subst, ◌∙◌, append_assoc}
+use Rattle.std.proofs.lemmas.List.{append-nil}
 use Rattle.std.specs.List.{AllByRecursion, filter}
 use Rattle.std.specs.Map.{values_of}
 use Rattle.std.specs.Option.{option_map}
@@ -16,7 +16,7 @@ use Rattle.od_tree.specs.declared.local.LocalFile.{LocalFile}
 use Rattle.od_tree.specs.declared.local.Spot.{Spot}
 use Rattle.od_sync.specs.Comparing.{node_of, scanned}
 use Rattle.od_sync.specs.Scans.{IsTree}
-use Rattle.od_sync.specs.Visits.{Turn, Visits, listing_at, digest_at, pushed, pushed_if, found_at, found_file, found_folder, waiting_after}
+use Rattle.od_sync.specs.Visits.{Turn, Visits, listing_at, pushed, pushed_if, found_file, found_folder}
 use Rattle.od_sync.specs.declared.scanning.Node.{Node}
 use Rattle.od_sync.specs.declared.scanning.Node.TheVariants.{Folder, File}
 use Rattle.od_sync.proofs.Compared.{same-path}

@@ -6,9 +6,9 @@ mod delta;
 mod laws;
 mod pulling;
 mod scanning;
-mod waiting;
 #[cfg(test)]
 mod tests;
+mod waiting;
 
 pub use comparing::is_same;
 pub use delta::{DeltaFault, ask_delta};

@@ -200,11 +200,7 @@ fn visit<T: Tree>(
 }
 
 /// Lets the entries of the root wait.
-fn begin<T: Tree>(
-    tree: &mut T,
-    alloc: Global,
-    waiting: &mut Vec<Waiting>,
-) -> Result<(), ScanFault>
+fn begin<T: Tree>(tree: &mut T, alloc: Global, waiting: &mut Vec<Waiting>) -> Result<(), ScanFault>
     ensures log { Looks (T.log tree.old) (T.log tree.new) }
     ensures cause { HasScanCause (T.faults tree.old) (T.faults tree.new) result }
     ensures found { OnOk result (Sees (λ spots. turns waiting.new.items ≡ pushed_if [] (listing_at [] spots) (turns waiting.old.items)) (T.log tree.old) (T.log tree.new)) }

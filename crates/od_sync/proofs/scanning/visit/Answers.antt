@@ -1,5 +1,5 @@
 use Rattle.od_sync.specs.Visits.{Sees, Visits, digest_at, found_file, turns}
-use Rattle.std.proofs.Common.{◌≡◌, ◌++◌, false}
+use Rattle.std.proofs.Common.{◌≡◌, ◌++◌}
 use Rattle.od_sync.proofs.Looking.{on-ok, file-visit}
 use Rattle.od_sync.proofs.scanning.visit.Goals as goal
 
