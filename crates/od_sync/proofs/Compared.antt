@@ -15,7 +15,7 @@ use Rattle.od_mirror.specs.Pulled.{paths_of}
 use Rattle.od_mirror.proofs.Standing.{paths-of-placed, tree-of-placed}
 use Rattle.od_sync.specs.Comparing.{is_same, is_same_entry, is_same_node, node_of, scanned, is_bytes, is_content, NoCollision}
 
-both : (a b : Bool) → (a && b) ≡ true → (a ≡ true) × (b ≡ true)
+pub both : (a b : Bool) → (a && b) ≡ true → (a ≡ true) × (b ≡ true)
 both true b is = (refl, is)
 both false b is = absurd (cc is)
 
@@ -30,11 +30,11 @@ or-first false b is = absurd (cc is)
 nat-self : (n : ℕ) → nat_eq n n ≡ true
 nat-self n = eq-eqb n n refl
 
-text-self : (xs : List ℕ) → pointwise nat_eq xs xs ≡ true
+pub text-self : (xs : List ℕ) → pointwise nat_eq xs xs ≡ true
 text-self [] = refl
 text-self (x ∷ xs) = rw (nat-self x) (text-self xs)
 
-same-path : (a b : List (List ℕ)) → pointwise (pointwise nat_eq) a b ≡ true → a ≡ b
+pub same-path : (a b : List (List ℕ)) → pointwise (pointwise nat_eq) a b ≡ true → a ≡ b
 same-path [] [] is = refl
 same-path [] (y ∷ b) is = absurd (cc is)
 same-path (x ∷ a) [] is = absurd (cc is)

@@ -3,3 +3,7 @@ pub mod PulledViews
 pub mod FirstPull
 pub mod Looking
 pub mod Compared
+pub mod InOrder
+pub mod Below
+pub mod Scanned
+pub mod Finding

@@ -8,6 +8,7 @@ mod pulling;
 mod scanning;
 #[cfg(test)]
 mod tests;
+mod waiting;
 
 pub use comparing::is_same;
 pub use delta::{DeltaFault, ask_delta};

@@ -1,7 +1,9 @@
-ghost use Rattle.std.specs.Prelude.{◌≡◌, ◌<◌, ◌++◌, ◌∷◌, [], length, IfOk};
+ghost use Rattle.std.specs.Prelude.{◌≡◌, ◌<◌, ◌++◌, ◌∷◌, [], true, false, length, IfOk, OnOk};
 ghost use Rattle.std.specs.List.{All};
-ghost use Rattle.od_sync.specs.Scans.{Looks, HasScanCause};
+ghost use Rattle.od_sync.specs.Scans.{Looks, Finds, HasScanCause};
+ghost use Rattle.od_sync.specs.Visits.{Sees, Visits, digest_at, listing_at, found_file, turns, pushed, pushed_if};
 
+use crate::waiting::Waiting;
 use gd_item::{Digest, digest_of};
 use gd_names::{Exact, List, NoMemory, Path, Text};
 use od_tree::{Entry, Tree, TreeFault};
@@ -60,14 +62,6 @@ impl<T: Drop> From<AllocFailed<T>> for ScanFault {
     }
 }
 
-/// An entry that is to be looked at.
-#[derive(Debug, Drop)]
-struct Waiting {
-    path: Path,
-    folder: bool,
-    ghost is_below_root: { 0 < length path },
-}
-
 /// The digest of a file, and None where it is gone.
 fn look_at_file<T: Tree>(
     tree: &mut T,
@@ -77,6 +71,7 @@ fn look_at_file<T: Tree>(
     requires { 0 < length at.now }
     ensures log { Looks (T.log tree.old) (T.log tree.new) }
     ensures cause { HasScanCause (T.faults tree.old) (T.faults tree.new) result }
+    ensures found { IfOk result (λ digest. Sees (λ spots. digest ≡ digest_at at.now spots) (T.log tree.old) (T.log tree.new)) }
 {
     match tree.read(alloc, at) {
         Ok(bytes) => Ok(Some(digest_of(bytes.as_slice()))),
@@ -96,6 +91,7 @@ fn look_at_folder<T: Tree>(
 ) -> Result<Option<List<Entry>>, ScanFault>
     ensures log { Looks (T.log tree.old) (T.log tree.new) }
     ensures cause { HasScanCause (T.faults tree.old) (T.faults tree.new) result }
+    ensures found { IfOk result (λ entries. Sees (λ spots. entries ≡ listing_at at.now spots) (T.log tree.old) (T.log tree.new)) }
 {
     match tree.list(alloc, at) {
         Ok(entries) => Ok(Some(entries)),
@@ -123,8 +119,13 @@ fn push_entries(
     waiting: &mut Vec<Waiting>,
     folder: &Path,
     entries: &[Entry],
-) -> Result<(), NoMemory> {
-    for entry in entries.iter().rev() {
+) -> Result<(), NoMemory>
+    ensures { OnOk result (turns waiting.new.items ≡ pushed folder.now entries.now (turns waiting.old.items)) }
+{
+    let mut left = entries.len();
+    while left > 0 {
+        left -= 1;
+        let entry = &entries[left];
         let path = path_in(folder, &entry.name)?;
         waiting.push(Waiting {
             path,
@@ -144,13 +145,16 @@ fn visit_file<T: Tree>(
     requires { 0 < length at }
     ensures log { Looks (T.log tree.old) (T.log tree.new) }
     ensures cause { HasScanCause (T.faults tree.old) (T.faults tree.new) result }
+    ensures found { OnOk result (Sees (λ spots. found.new.items ≡ found.old.items ++ found_file at (digest_at at spots)) (T.log tree.old) (T.log tree.new)) }
 {
     let digest = look_at_file(tree, alloc, &at)?;
     match digest {
-        Some(digest) => found.push((at, Node::File(digest)))?,
-        None => {}
+        Some(digest) => {
+            found.push((at, Node::File(digest)))?;
+            Ok(())
+        }
+        None => Ok(()),
     }
-    Ok(())
 }
 
 /// Scans a folder, if it is still there, and lets its entries wait.
@@ -163,16 +167,17 @@ fn visit_folder<T: Tree>(
 ) -> Result<(), ScanFault>
     ensures log { Looks (T.log tree.old) (T.log tree.new) }
     ensures cause { HasScanCause (T.faults tree.old) (T.faults tree.new) result }
+    ensures found { OnOk result (Sees (Visits at true found.old.items found.new.items (turns waiting.old.items) (turns waiting.new.items)) (T.log tree.old) (T.log tree.new)) }
 {
     let entries = look_at_folder(tree, alloc, &at)?;
     match entries {
         Some(entries) => {
             push_entries(waiting, &at, entries.as_slice())?;
             found.push((at, Node::Folder))?;
+            Ok(())
         }
-        None => {}
+        None => Ok(()),
     }
-    Ok(())
 }
 
 fn visit<T: Tree>(
@@ -184,6 +189,7 @@ fn visit<T: Tree>(
 ) -> Result<(), ScanFault>
     ensures log { Looks (T.log tree.old) (T.log tree.new) }
     ensures cause { HasScanCause (T.faults tree.old) (T.faults tree.new) result }
+    ensures found { OnOk result (Sees (Visits next.path next.folder found.old.items found.new.items (turns waiting.old.items) (turns waiting.new.items)) (T.log tree.old) (T.log tree.new)) }
 {
     let Waiting { path, folder } = next;
     if folder {
@@ -193,19 +199,32 @@ fn visit<T: Tree>(
     }
 }
 
+/// Lets the entries of the root wait.
+fn begin<T: Tree>(tree: &mut T, alloc: Global, waiting: &mut Vec<Waiting>) -> Result<(), ScanFault>
+    ensures log { Looks (T.log tree.old) (T.log tree.new) }
+    ensures cause { HasScanCause (T.faults tree.old) (T.faults tree.new) result }
+    ensures found { OnOk result (Sees (λ spots. turns waiting.new.items ≡ pushed_if [] (listing_at [] spots) (turns waiting.old.items)) (T.log tree.old) (T.log tree.new)) }
+{
+    let root = Path::root(alloc);
+    let entries = look_at_folder(tree, alloc, &root)?;
+    match entries {
+        Some(entries) => {
+            push_entries(waiting, &root, entries.as_slice())?;
+            Ok(())
+        }
+        None => Ok(()),
+    }
+}
+
 /// All entries in order of path: a folder is listed, and a file read, when its turn comes. What is gone then is left out.
 pub fn scan<T: Tree>(tree: &mut T, alloc: Global) -> Result<List<(Path, Node)>, ScanFault>
     ensures log { Looks (T.log tree.old) (T.log tree.new) }
     ensures cause { HasScanCause (T.faults tree.old) (T.faults tree.new) result }
+    ensures found { IfOk result (λ found. Finds (T.log tree.old) (T.log tree.new) found) }
 {
     let mut found = Vec::new(alloc);
     let mut waiting = Vec::new(alloc);
-    let root = Path::root(alloc);
-    let entries = look_at_folder(tree, alloc, &root)?;
-    match entries {
-        Some(entries) => push_entries(&mut waiting, &root, entries.as_slice())?,
-        None => {}
-    }
+    begin(tree, alloc, &mut waiting)?;
     for _turn in 0..u64::MAX {
         match waiting.pop() {
             Some(next) => visit(tree, alloc, next, &mut waiting, &mut found)?,

@@ -1,0 +1,70 @@
+-- What one visit of a scan finds in a folder that the user leaves alone, and what waits then.
+use Rattle.std.specs.Prelude.{◌≡◌, Bool, true, false, ℕ, List, [], ◌∷◌, ◌++◌, map, cond, Option, Some, None}
+use Rattle.std.specs.List.{AllByRecursion}
+use Rattle.std.specs.Option.{option_map}
+use Rattle.gd_item.specs.Records.{digest_record}
+use Rattle.gd_item.specs.declared.digest.Digest.{Digest}
+use Rattle.od_tree.specs.Listing.{entries_in}
+use Rattle.od_tree.specs.Local.{local_of, file_at, bytes_in, is_folder_at}
+use Rattle.od_tree.specs.declared.entry.Entry.{Entry}
+use Rattle.od_tree.specs.declared.local.Spot.{Spot}
+use Rattle.od_tree.specs.declared.step.LocalStep.{LocalStep}
+use Rattle.od_sync.specs.Scans.{IsLook, NoUser}
+use Rattle.od_sync.specs.declared.scanning.Node.{Node}
+use Rattle.od_sync.specs.declared.scanning.Node.TheVariants.{Folder, File}
+use Rattle.od_sync.specs.declared.waiting.Waiting.{Waiting}
+
+-- the log grows by steps that look, and without edits of the user something holds of the entries
+pub record Seen (Fact : List Spot → Type 0) (old : List LocalStep) (after : Option (List LocalStep)) : Type 0 where
+  pub part : List LocalStep
+  pub looks : AllByRecursion IsLook part
+  pub grown : after ≡ Some (old ++ part)
+  pub fact : NoUser part → Fact (local_of old).spots
+
+pub record Sees (Fact : List Spot → Type 0) (before after : Option (List LocalStep)) : Type 0 where
+  pub told : (old : List LocalStep) → before ≡ Some old → Seen Fact old after
+
+-- the digest of the file at a path, and the entries of the folder there
+abbrev pub digest_at : List (List ℕ) → List Spot → Option Digest
+digest_at at spots = option_map digest_record (bytes_in (file_at at spots))
+
+abbrev pub listing_at : List (List ℕ) → List Spot → Option (List Entry)
+listing_at at spots = cond (is_folder_at at spots) (Some (entries_in at spots)) None
+
+-- a path that waits, and whether it is a folder
+abbrev pub Turn : Type 0
+Turn = List (List ℕ) × Bool
+
+abbrev pub turns : List Waiting → List Turn
+turns waiting = map (λ (w : Waiting). (w.path, w.folder)) waiting
+
+-- the entries of a folder wait above the others, the first of them last, which is on top
+abbrev pub pushed : List (List ℕ) → List Entry → List Turn → List Turn
+pushed folder [] stack = stack
+pushed folder (entry ∷ entries) stack = pushed folder entries stack ++ (folder ++ entry.name ∷ [], entry.folder) ∷ []
+
+abbrev pub pushed_if : List (List ℕ) → Option (List Entry) → List Turn → List Turn
+pushed_if folder None stack = stack
+pushed_if folder (Some entries) stack = pushed folder entries stack
+
+-- what is found at a path
+abbrev pub found_file : List (List ℕ) → Option Digest → List (List (List ℕ) × Node)
+found_file at None = []
+found_file at (Some digest) = (at, File digest) ∷ []
+
+abbrev pub found_folder : List (List ℕ) → Option (List Entry) → List (List (List ℕ) × Node)
+found_folder at None = []
+found_folder at (Some entries) = (at, Folder) ∷ []
+
+abbrev pub found_at : List (List ℕ) → Bool → List Spot → List (List (List ℕ) × Node)
+found_at at true spots = found_folder at (listing_at at spots)
+found_at at false spots = found_file at (digest_at at spots)
+
+abbrev pub waiting_after : List (List ℕ) → Bool → List Spot → List Turn → List Turn
+waiting_after at true spots stack = pushed_if at (listing_at at spots) stack
+waiting_after at false spots stack = stack
+
+-- a visit of a path that waits
+pub record Visits (at : List (List ℕ)) (folder : Bool) (found found_now : List (List (List ℕ) × Node)) (stack stack_now : List Turn) (spots : List Spot) : Type 0 where
+  pub found_is : found_now ≡ found ++ found_at at folder spots
+  pub waiting_is : stack_now ≡ waiting_after at folder spots stack
