@@ -41,6 +41,10 @@ pub record WritesNothing (before after : Option (List ℕ)) : Type 0 where
 pub record IsTooLong (text : Option (List ℕ)) : Type 0 where
   pub told : (bytes : List ℕ) → text ≡ Some bytes → most_bytes < length bytes
 
+-- the text was not too long
+pub record IsShort (text : Option (List ℕ)) : Type 0 where
+  pub told : (bytes : List ℕ) → text ≡ Some bytes → length bytes ≤ most_bytes
+
 -- a first part of what was to be written was written
 pub record WritesPart (text before after : Option (List ℕ)) : Type 0 where
   pub told : (bytes written : List ℕ) → text ≡ Some bytes → before ≡ Some written → (n : ℕ) × (after ≡ Some (written ++ take n (output bytes)))

@@ -1,6 +1,6 @@
 ghost use Rattle.std.specs.Prelude.{◌≡◌, ℕ, false, OnOk, IsErrOf};
 ghost use Rattle.gd_names.specs.Streams.{Rose};
-ghost use Rattle.od_cli.specs.Replays.{is_replay, Replays, TellsBadLine, IsTooLong, WritesNothing, WritesPart};
+ghost use Rattle.od_cli.specs.Replays.{is_replay, IsShort, IsTooLong, Replays, TellsBadLine, WritesNothing, WritesPart};
 
 use crate::output::make_output;
 use crate::read::read_all;
@@ -30,7 +30,7 @@ fn replay<I: Source, S: Sink>(
     ensures bad_line { (number : ℕ) → IsErrOf result (ReplayStatus.BadLine number) → TellsBadLine number (I.left source.old) (S.written sink.old) (S.written sink.new) }
     ensures too_long { IsErrOf result ReplayStatus.TooLong → IsTooLong (I.left source.old) × WritesNothing (S.written sink.old) (S.written sink.new) }
     ensures read { IsErrOf result ReplayStatus.ReadFault → Rose (I.faults source.old) (I.faults source.new) × WritesNothing (S.written sink.old) (S.written sink.new) }
-    ensures write { IsErrOf result ReplayStatus.WriteFault → Rose (S.faults sink.old) (S.faults sink.new) × WritesPart (I.left source.old) (S.written sink.old) (S.written sink.new) }
+    ensures write { IsErrOf result ReplayStatus.WriteFault → Rose (S.faults sink.old) (S.faults sink.new) × IsShort (I.left source.old) × WritesPart (I.left source.old) (S.written sink.old) (S.written sink.new) }
     ensures memory { IsErrOf result ReplayStatus.Memory → WritesPart (I.left source.old) (S.written sink.old) (S.written sink.new) }
 {
     let text = read_all(alloc, source)?;
@@ -56,7 +56,7 @@ pub fn replay_main<I: Source, S: Sink>(
     ensures bad_line { (number : ℕ) → result ≡ ReplayStatus.BadLine number → TellsBadLine number (I.left source.old) (S.written sink.old) (S.written sink.new) }
     ensures too_long { result ≡ ReplayStatus.TooLong → IsTooLong (I.left source.old) × WritesNothing (S.written sink.old) (S.written sink.new) }
     ensures read { result ≡ ReplayStatus.ReadFault → Rose (I.faults source.old) (I.faults source.new) × WritesNothing (S.written sink.old) (S.written sink.new) }
-    ensures write { result ≡ ReplayStatus.WriteFault → Rose (S.faults sink.old) (S.faults sink.new) × WritesPart (I.left source.old) (S.written sink.old) (S.written sink.new) }
+    ensures write { result ≡ ReplayStatus.WriteFault → Rose (S.faults sink.old) (S.faults sink.new) × IsShort (I.left source.old) × WritesPart (I.left source.old) (S.written sink.old) (S.written sink.new) }
     ensures memory { result ≡ ReplayStatus.Memory → WritesPart (I.left source.old) (S.written sink.old) (S.written sink.new) }
 {
     if !is_command(words) {
