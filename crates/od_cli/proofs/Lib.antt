@@ -1,5 +1,6 @@
 pub mod Asking
 pub mod Ends
+pub mod Leading
 pub mod Moves
 pub mod Numbers
 pub mod Playing
@@ -7,6 +8,10 @@ pub mod Prints
 pub mod Pulls
 pub mod Reading
 pub mod Removals
+pub mod Replies
 pub mod Scripts
 pub mod Shown
 pub mod Spaces
+pub mod Syncing
+pub mod Tallies
+pub mod Worlds

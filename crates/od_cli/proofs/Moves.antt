@@ -1,5 +1,5 @@
 -- The request of a move, where the folder above the new path is there.
-use Rattle.std.proofs.Common.{◌≡◌, ℕ, List, [], ◌∷◌, Option, Some, None, refl, sym, ap, ◌∙◌, subst}
+use Rattle.std.proofs.Common.{◌≡◌, ℕ, List, [], ◌∷◌, Option, Some, None, sym, ap, ◌∙◌}
 use Rattle.std.specs.Option.{option_map}
 use Rattle.gd_item.specs.Ids.{item_id}
 use Rattle.gd_item.specs.Inventory.{Inventory, Effect, inventory}
@@ -14,7 +14,6 @@ use Rattle.gd_item.specs.declared.request.Address.TheVariants.{ByPath}
 use Rattle.gd_item.specs.declared.request.Request.{Request}
 use Rattle.gd_item.specs.declared.request.Request.TheVariants.{Patch}
 use Rattle.gd_item.specs.declared.step.Step.{Step}
-use Rattle.gd_api.specs.Drives.{DriveValue, Stands}
 use Rattle.gd_store.specs.Stands as store
 use Rattle.od_cli.specs.Played.{request_of}
 use Rattle.od_cli.specs.declared.line.Line.TheVariants.{OtherMove}
@@ -23,14 +22,12 @@ found-in : (found : Option ℕ) (parent : ItemId) → option_map item_id found �
 found-in None parent h = absurd cc
 found-in (Some n) parent h = let same : item_id n ≡ parent = cc in ap Some (ap (λ (id : ItemId). id.0) same)
 
-pub move-request : (log : List Step) (drive : DriveValue) (value : Inventory) (from to path above : List (List ℕ)) (name : List ℕ) (found : Option ItemId) (parent : ItemId) → Stands drive log → value ≡ drive.store
+pub move-request : (log : List Step) (value : Inventory) (from to path above : List (List ℕ)) (name : List ℕ) (found : Option ItemId) (parent : ItemId) → store.Stands value (state_of log).effects
     → ((effects : List Effect) → store.Stands value effects → found ≡ option_map item_id (number_at above (nodes_of (inventory effects)))) → found ≡ Some parent → above ≡ names_above to → name ≡ last_name to → path ≡ from
     → request_of (held (state_of log)) (OtherMove from to) ≡ Some (Patch (ByPath path) (Some name) (Some parent) Free)
-move-request log drive value from to path above name found parent stands same by some is named copied =
+move-request log value from to path above name found parent stands by some is named copied =
     let effects : List Effect = (state_of log).effects in
-    let P : Inventory → Type 0 = λ v. store.Stands v effects in
-    let at : number_at above (nodes_of (inventory effects)) ≡ Some parent.0 =
-    found-in (number_at above (nodes_of (inventory effects))) parent (sym (by effects (subst P (sym same) stands.store)) ∙ some) in
+    let at : number_at above (nodes_of (inventory effects)) ≡ Some parent.0 = found-in (number_at above (nodes_of (inventory effects))) parent (sym (by effects stands) ∙ some) in
     let there : number_at (names_above to) (nodes_of (inventory effects)) ≡ Some parent.0 = ap (λ p. number_at p (nodes_of (inventory effects))) (sym is) ∙ at in
     ap (λ (o : Option ℕ). option_map (λ n. Patch (ByPath from) (Some (last_name to)) (Some (item_id n)) Free) o) there
     ∙ ap (λ n. Some (Patch (ByPath from) (Some n) (Some parent) Free)) (sym named)

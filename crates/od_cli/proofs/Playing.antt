@@ -1,33 +1,42 @@
--- The lines that are played, and those that are left, make the whole.
-use Rattle.std.proofs.Common.{◌≡◌, ℕ, ◌+◌, ◌<◌, List, ◌∷◌, ◌++◌, length, drop, get_or, sym, ap, ◌∙◌, append_assoc}
-use Rattle.std.proofs.lemmas.List.{drop_more}
-use Rattle.gd_item.specs.declared.step.Step.{Step}
-use Rattle.gd_api.specs.Drives.{DriveValue, Stands}
+-- The lines that were played so far led a new run to where it is.
+use Rattle.std.proofs.Common.{◌≡◌, ℕ, ◌+◌, ◌<◌, ◌≤◌, List, [], ◌∷◌, ◌++◌, length, take, get_or, refl, sym, ap, ◌∙◌, subst, append_assoc, append-nil}
+use Rattle.std.proofs.lemmas.List.{take_more, take_all}
+use Rattle.od_keeper.specs.declared.memory.MemoryKeeper.{MemoryKeeper}
+use Rattle.od_tree.specs.declared.memory.MemoryTree.{MemoryTree}
+use Rattle.od_cli.specs.Runs.{Run, Goes, GoThrough, Played, new_run}
+use Rattle.od_cli.specs.RunStates.{PlaysTo, StandsFor}
+use Rattle.od_cli.specs.Worlds.{WorldValue}
 use Rattle.od_cli.specs.declared.line.Line.{Line}
-use Rattle.od_cli.specs.Played.{page_size, line_text, line_steps, played_from, played}
-use Rattle.od_cli.specs.Plays.{IsDrive, Plays}
 
-pub record Playing (drive : DriveValue) (out : List ℕ) (left whole : List Line) : Type 0 where
-  pub log : List Step
-  pub stands : Stands drive log
-  pub size : drive.size ≡ page_size
-  pub text : out ++ played_from log left ≡ played whole
+-- one line more
+go-on : (first : Run) (lines : List Line) (line : Line) (run next : Run) (text more : List ℕ) → GoThrough first lines run text → Goes run line next more → GoThrough first (lines ++ line ∷ []) next (text ++ more)
+go-on first [] line run next text more so goes =
+    let P : Run → Type 0 = λ r. Goes r line next more in
+    (next, more, [], subst P so.0 goes, (refl, refl), ap (λ t. t ++ more) so.1 ∙ sym (append-nil more))
+go-on first (earlier ∷ lines) line run next text more so goes =
+    (so.0, so.1, so.2 ++ more, so.3, go-on so.0 lines line run next so.2 more so.4 goes, ap (λ t. t ++ more) so.5 ∙ append_assoc so.1 so.2 more)
 
-pub is-drive : (drive : DriveValue) (out : List ℕ) (left whole : List Line) → Playing drive out left whole → IsDrive drive
-is-drive drive out left whole playing = record { log = playing.log; stands = playing.stands; size = playing.size }
+pub record PlayedTo (world : WorldValue) (folder : MemoryTree) (kept : MemoryKeeper) (counted : ℕ) (out : List ℕ) (lines : List Line) : Type 0 where
+  pub run : Run
+  pub stands : StandsFor world folder kept counted run
+  pub goes : GoThrough new_run lines run out
 
--- one more line
-pub one-more : (drive next : DriveValue) (out after : List ℕ) (lines whole : List Line) (i : ℕ) (line : Line) → Playing drive out (drop i lines) whole → i < length lines → line ≡ get_or lines i line → Plays drive next out after line
-    → Playing next after (drop (i + 1) lines) whole
-one-more drive next out after lines whole i line playing lt is plays =
-    let log : List Step = playing.log in
-    let rest : List Line = drop (i + 1) lines in
-    let split : drop i lines ≡ line ∷ rest = drop_more lines i line lt ∙ ap (λ l. l ∷ rest) (sym is) in
-    let more : List Step = log ++ line_steps log line in
-    record {
-      log = more;
-      stands = plays.stands log playing.stands;
-      size = plays.size ∙ playing.size;
-      text = ap (λ t. t ++ played_from more rest) (plays.printed log playing.stands) ∙ append_assoc out (line_text log line) (played_from more rest)
-          ∙ ap (λ l. out ++ played_from log l) (sym split) ∙ playing.text;
-    }
+pub none-yet : (world : WorldValue) (folder : MemoryTree) (kept : MemoryKeeper) (counted : ℕ) (out : List ℕ) (lines : List Line) → StandsFor world folder kept counted new_run → out ≡ []
+    → PlayedTo world folder kept counted out (take 0 lines)
+none-yet world folder kept counted out lines stands empty = record { run = new_run; stands = stands; goes = (refl, empty) }
+
+pub one-more : (world world_after : WorldValue) (folder folder_after : MemoryTree) (kept kept_after : MemoryKeeper) (counted counted_after : ℕ) (out after : List ℕ) (lines : List Line) (i : ℕ) (line : Line)
+    → PlayedTo world folder kept counted out (take i lines) → i < length lines → line ≡ get_or lines i line
+    → ((run : Run) → StandsFor world folder kept counted run → PlaysTo world_after folder_after kept_after counted_after run line out after) → PlayedTo world_after folder_after kept_after counted_after after (take (i + 1) lines)
+one-more world world_after folder folder_after kept kept_after counted counted_after out after lines i line so inside is plays =
+    let done = plays so.run so.stands in
+    let cut : take (i + 1) lines ≡ take i lines ++ line ∷ [] = take_more lines i line inside ∙ ap (λ (l : Line). take i lines ++ l ∷ []) (sym is) in
+    let whole : GoThrough new_run (take i lines ++ line ∷ []) done.next (out ++ done.text) = go-on new_run (take i lines) line so.run done.next out done.text so.goes done.goes in
+    let P : List Line → Type 0 = λ ls. GoThrough new_run ls done.next after in
+    let Q : List ℕ → Type 0 = λ t. GoThrough new_run (take i lines ++ line ∷ []) done.next t in
+    record { run = done.next; stands = done.stands; goes = subst P (sym cut) (subst Q (sym done.printed) whole) }
+
+pub all-played : (world : WorldValue) (folder : MemoryTree) (kept : MemoryKeeper) (counted : ℕ) (out : List ℕ) (lines : List Line) (i : ℕ) → length lines ≤ i → PlayedTo world folder kept counted out (take i lines) → Played lines out
+all-played world folder kept counted out lines i past so =
+    let P : List Line → Type 0 = λ ls. GoThrough new_run ls so.run out in
+    record { last = so.run; goes = subst P (take_all i lines past) so.goes }

@@ -1,5 +1,5 @@
 -- The items of a pull print as the drive's tree does.
-use Rattle.std.proofs.Common.{◌≡◌, ℕ, ◌+◌, List, [], ◌∷◌, ◌++◌, codes, length, Option, Some, None, refl, sym, ap, ◌∙◌, subst, append_assoc}
+use Rattle.std.proofs.Common.{◌≡◌, ℕ, ◌+◌, List, [], ◌∷◌, ◌++◌, codes, length, Option, Some, None, refl, sym, ap, ◌∙◌, append_assoc}
 use Rattle.std.specs.Fmt.{decimal}
 use Rattle.std.specs.List.{flat_map}
 use Rattle.gd_item.specs.Inventory.{Inventory, Effect, inventory}
@@ -20,9 +20,8 @@ use Rattle.od_cli.specs.Played.{entry_line, pull_text}
 use Rattle.od_cli.specs.Pulled.{item_line, kind_line, whole_items}
 use Rattle.gd_item.specs.Steps.{state_of, held_by}
 use Rattle.gd_item.specs.declared.request.Request.TheVariants.{Delta}
-use Rattle.gd_item.specs.declared.step.Step.{Step}
-use Rattle.gd_api.specs.Drives.{DriveValue, Stands}
-use Rattle.od_cli.specs.Plays.{Plays, with_other}
+use Rattle.od_cli.specs.Plays.{Plays}
+use Rattle.od_cli.specs.Worlds.{WorldValue, with_other}
 use Rattle.od_cli.specs.declared.line.Line.TheVariants.{Pull}
 use Rattle.od_cli.proofs.Pulls.{sound-of, records-are}
 
@@ -56,15 +55,13 @@ pull-printed value log page paths number old first new stands is are own begins 
     ∙ ap (λ l. old ++ ((codes "pull " ++ decimal (inventory log).number ++ codes "\n") ++ l)) lines
 
 -- so the line was played
-pub pull-plays : (before after : DriveValue) (value : Inventory) (old first new : List ℕ) (page : List Item) (paths slice : List (List (List ℕ) × Item)) (number : ℕ) → value ≡ before.store
-    → ((effects : List Effect) → store.Stands value effects → number ≡ length effects + 1)
-    → ((log : List Step) → Stands before log → (page ≡ whole_items (held_by log)) × Stands after (with_other log (Delta None))) → after.size ≡ before.size
+pub pull-plays : (before after : WorldValue) (value : Inventory) (old first new : List ℕ) (page : List Item) (paths slice : List (List (List ℕ) × Item)) (number : ℕ) → store.Stands value (state_of before.log).effects
+    → ((effects : List Effect) → store.Stands value effects → number ≡ length effects + 1) → page ≡ whole_items (held_by before.log) → after ≡ record before { log = with_other before.log (Delta None) }
     → paths ≡ paths_of (values_of (with_records [] page)) → slice ≡ paths → first ≡ old ++ (codes "pull" ++ codes " " ++ decimal number ++ codes "\n") → new ≡ first ++ flat_map item_line slice → Plays before after old new Pull
-pull-plays before after value old first new page paths slice number lent named asked size are same begins ends = record {
-  stands = λ log stands. (asked log stands).1;
-  printed = λ log stands.
-      let P : Inventory → Type 0 = λ v. store.Stands v (state_of log).effects in
-      pull-printed before.store (state_of log).effects page paths number old first new stands.store (asked log stands).0 are (named (state_of log).effects (subst P (sym lent) stands.store)) begins
+pull-plays before after value old first new page paths slice number stands named items asked are same begins ends = record {
+  world = asked;
+  printed =
+      let effects : List Effect = (state_of before.log).effects in
+      pull-printed value effects page paths number old first new stands items are (named effects stands) begins
       (ends ∙ ap (λ (xs : List (List (List ℕ) × Item)). first ++ flat_map item_line xs) same);
-  size = size;
 }

@@ -1,12 +1,10 @@
 -- A fresh pull gives what the drive holds.
-use Rattle.std.proofs.Common.{◌≡◌, ◌≢◌, ◌⊎◌, ℕ, ◌+◌, ◌-◌, ◌≤◌, Bool, true, false, cond, nat_lt, List, [], ◌∷◌, ◌++◌, length, slice_index, is_some, Option, Some, None, inl, inr, refl, sym, ap, ◌∙◌, subst, arith}
+use Rattle.std.proofs.Common.{◌≡◌, ℕ, ◌+◌, ◌-◌, ◌≤◌, Bool, true, false, cond, nat_lt, List, [], length, slice_index, is_some, Option, Some, None, refl, sym, ap, ◌∙◌, subst, arith}
 use Rattle.std.proofs.lemmas.List.{take_all}
 use Rattle.std.proofs.lemmas.Map.Entries.{length-values_of}
 use Rattle.std.specs.Map.{keys_of, values_of}
-use Rattle.gd_item.specs.Answers.{unserved}
 use Rattle.gd_item.specs.Inventory.{Inventory, Effect, inventory}
 use Rattle.gd_item.specs.Records.{feed, first_of, last_of}
-use Rattle.gd_item.specs.Sessions.{held}
 use Rattle.gd_item.specs.Sound.{IsItemMap}
 use Rattle.gd_item.specs.Steps.{state_of, held_by}
 use Rattle.gd_item.specs.declared.item.Item.{Item}
@@ -17,12 +15,8 @@ use Rattle.gd_item.specs.declared.reply.Reply.{Reply}
 use Rattle.gd_item.specs.declared.reply.Reply.TheVariants as reply
 use Rattle.gd_item.specs.declared.request.Request.TheVariants.{Delta}
 use Rattle.gd_item.specs.declared.step.Step.{Step}
-use Rattle.gd_item.specs.declared.step.Step.TheVariants.{Ask}
-use Rattle.gd_item.specs.declared.step.Who.{Who}
-use Rattle.gd_item.specs.declared.step.Who.TheVariants.{Other}
 use Rattle.gd_item.proofs.Effects.{number-inventory}
-use Rattle.gd_api.specs.Drives.{DriveValue, Stands, Handles, is_about_session}
-use Rattle.gd_api.specs.WholePage.{answer_now, whole_page}
+use Rattle.gd_api.specs.WholePage.{answer_now}
 use Rattle.gd_store.specs.Stands as store
 use Rattle.gd_store.proofs.Allowed.{not-below}
 use Rattle.gd_item.specs.Records.{records_of}
@@ -31,8 +25,8 @@ use Rattle.od_mirror.specs.declared.mirror.Taken.{Taken}
 use Rattle.od_mirror.specs.declared.mirror.Taken.TheVariants.{Last, More}
 use Rattle.od_mirror.proofs.Feed.{feed-from-start}
 use Rattle.od_mirror.proofs.Standing.{records-fit}
-use Rattle.od_cli.specs.Plays.{IsDrive, with_other}
 use Rattle.od_cli.specs.Pulled.{whole_items, IsWhole}
+use Rattle.od_cli.specs.Worlds.{page_size}
 use Rattle.od_cli.proofs.Removals.{no-removals}
 
 none-given : (b : Bool) (x : ℕ) → cond b (Some x) None ≡ None → b ≡ false
@@ -90,11 +84,6 @@ never-bad page after number whole is bad =
     let yes : is_bad (nodes (values_of after.items)) number ≡ true = bad.bad in
     cc
 
-abbrev Answered : DriveValue → DriveValue → List Step → Reply → Type 0
-Answered before after log r =
-    ((r ≡ answer_now (state_of log) before.size (Delta None)) × ((who : Who) (heard : Bool) → Stands after (log ++ Ask who (Delta None) true heard ∷ [])))
-    ⊎ ((r ≡ unserved) × (after ≡ before) × ((who : Who) (heard : Bool) → Stands after (log ++ Ask who (Delta None) false heard ∷ [])))
-
 page-items : Reply → List Item
 page-items (reply.Page page) = page.items
 page-items r = []
@@ -104,19 +93,11 @@ page-taken (reply.Page page) = taken_of page.link
 page-taken r = More
 
 -- the page that the drive answers
-page-by : (before after : DriveValue) (log : List Step) (r : Reply) (page : Page) → r ≡ reply.Page page → Answered before after log r
-    → (page.items ≡ whole_items (held_by log)) × (taken_of page.link ≡ Last) × Stands after (with_other log (Delta None))
-unfolding page-items page-taken
-page-by before after log r page is (inl found) = (ap page-items (sym is ∙ found.0), ap page-taken (sym is ∙ found.0), found.1 Other true)
-page-by before after log r page is (inr none) = let odd : reply.Page page ≡ unserved = sym is ∙ none.0 in absurd cc
+pub page-is : (log : List Step) (r : Reply) (page : Page) → r ≡ reply.Page page → r ≡ answer_now (state_of log) page_size (Delta None) → page.items ≡ whole_items (held_by log)
+unfolding page-items
+page-is log r page is found = ap page-items (sym is ∙ found)
 
-module _ (before after : DriveValue) (r : Reply) (page : Page) (is : r ≡ reply.Page page)
-    (handled : (log : List Step) → Stands before log → is_about_session (Delta None) ≡ false → Handles before after log (Delta None) r (answer_now (state_of log) before.size (Delta None))) where
-  found : (log : List Step) → Stands before log → (page.items ≡ whole_items (held_by log)) × (taken_of page.link ≡ Last) × Stands after (with_other log (Delta None))
-  found log stands = page-by before after log r page is (handled log stands refl).answered
-
-  pub page-is : (log : List Step) → Stands before log → (page.items ≡ whole_items (held_by log)) × Stands after (with_other log (Delta None))
-  page-is log stands = ((found log stands).0, (found log stands).2)
-
-  pub page-whole : IsDrive before → IsWhole page
-  page-whole drive = whole-of page before.store (state_of drive.log).effects drive.stands.store (found drive.log drive.stands).0 (found drive.log drive.stands).1
+pub page-whole : (log : List Step) (r : Reply) (page : Page) → r ≡ reply.Page page → r ≡ answer_now (state_of log) page_size (Delta None) → IsItemMap (held_by log) → IsWhole page
+unfolding page-taken
+page-whole log r page is found sound =
+    record { drive = held_by log; sound = sound; no_removals = no-removals (state_of log).effects 0; items = page-is log r page is found; last = ap page-taken (sym is ∙ found) }

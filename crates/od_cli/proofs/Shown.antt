@@ -17,7 +17,6 @@ use Rattle.gd_item.specs.declared.live.LiveItem.{LiveItem}
 use Rattle.gd_item.specs.declared.step.Step.{Step}
 use Rattle.gd_item.proofs.Effects.{number-inventory}
 use Rattle.gd_item.proofs.Pairs.{AllPairs-tail}
-use Rattle.gd_api.specs.Drives.{DriveValue, Stands}
 use Rattle.gd_store.specs.Stands as store
 use Rattle.gd_item.specs.Records.{records_of}
 use Rattle.od_mirror.specs.Drive.{placed_items}
@@ -26,8 +25,9 @@ use Rattle.od_mirror.proofs.Mapped.{mapped, in-order-mapped}
 use Rattle.od_mirror.proofs.Pairs.{each-later, each-both}
 use Rattle.od_mirror.proofs.Standing.{paths-of-placed, tree-of-placed}
 use Rattle.od_cli.specs.Played.{content_line, drive_text}
-use Rattle.od_cli.specs.Plays.{IsDrive, Plays}
+use Rattle.od_cli.specs.Plays.{Plays}
 use Rattle.od_cli.specs.Pulled.{shown_kind, shown_line, whole_items}
+use Rattle.od_cli.specs.Worlds.{WorldValue}
 use Rattle.od_cli.specs.declared.line.Line.TheVariants.{Drive}
 use Rattle.od_cli.proofs.Pulls.{sound-of, records-are}
 
@@ -98,11 +98,8 @@ store-printed value log page paths slice number old first new stands is are lent
     ∙ ap (λ l. old ++ ((codes "drive " ++ decimal drive.number ++ codes "\n") ++ l)) lines
 
 -- so the line was played
-pub drive-plays : (drive : DriveValue) (value : Inventory) (old new : List ℕ) → value ≡ drive.store → ((effects : List Effect) → store.Stands value effects → new ≡ old ++ drive_text (inventory effects)) → Plays drive drive old new Drive
-drive-plays drive value old new lent printed = record {
-  stands = λ log stands. subst (Stands drive) (sym (append-nil log)) stands;
-  printed = λ log stands.
-      let P : Inventory → Type 0 = λ v. store.Stands v (state_of log).effects in
-      printed (state_of log).effects (subst P (sym lent) stands.store);
-  size = refl;
+pub drive-plays : (world : WorldValue) (value : Inventory) (old new : List ℕ) → store.Stands value (state_of world.log).effects → ((effects : List Effect) → store.Stands value effects → new ≡ old ++ drive_text (inventory effects)) → Plays world world old new Drive
+drive-plays world value old new stands printed = record {
+  world = ap (λ (l : List Step). record world { log = l }) (sym (append-nil world.log));
+  printed = printed (state_of world.log).effects stands;
 }

@@ -1,4 +1,4 @@
--- What a script prints when it is played on a new drive: the refusals of other clients' calls, at each pull the drive's
+-- What a line of a script prints that is played on a drive: the refusals of other clients' calls, at each pull the drive's
 -- change number and the paths of its items with sizes and digests, and at `drive` the same with contents.
 use Rattle.std.specs.Prelude.{ℕ, Bool, true, ◌&&◌, cond, List, [], ◌∷◌, ◌++◌, length, replicate, codes, nat_le, Option, Some, None}
 use Rattle.std.specs.List.{flat_map, list_all}
@@ -28,14 +28,11 @@ use Rattle.gd_item.specs.declared.step.Step.{Step}
 use Rattle.gd_item.specs.declared.step.Step.TheVariants.{Ask}
 use Rattle.gd_item.specs.declared.step.Who.TheVariants.{Other}
 use Rattle.od_cli.specs.Script.{is_plain}
+use Rattle.od_cli.specs.Worlds.{page_size}
 use Rattle.od_cli.specs.declared.line.Content.{Content}
 use Rattle.od_cli.specs.declared.line.Content.TheVariants.{Text, Fill}
 use Rattle.od_cli.specs.declared.line.Line.{Line}
-use Rattle.od_cli.specs.declared.line.Line.TheVariants.{OtherPut, OtherMakeFolder, OtherMove, OtherRemove, Pull, Drive}
-
--- how many items a list of the drive has at most
-abbrev pub page_size : ℕ
-page_size = 200
+use Rattle.od_cli.specs.declared.line.Line.TheVariants.{OtherPut, OtherMakeFolder, OtherMove, OtherRemove, Pull, Drive, Sync, Local, Requests}
 
 -- the bytes of a content
 abbrev pub content_bytes : Content → List ℕ
@@ -51,6 +48,9 @@ request_of held (OtherMove from to) =
 request_of held (OtherRemove path) = Some (Delete (ByPath path) Free)
 request_of held Pull = Some (Delta None)
 request_of held Drive = None
+request_of held Sync = None
+request_of held Local = None
+request_of held Requests = None
 
 -- the line of a refusal: `other`, the status and the code
 abbrev pub refusal_line : ℕ → ErrorCode → List ℕ
@@ -94,20 +94,15 @@ content_line (path, Some bytes) = path_text path ++ codes " " ++ decimal (length
 abbrev pub drive_text : Inventory → List ℕ
 drive_text held = codes "drive " ++ decimal held.number ++ codes "\n" ++ flat_map content_line (tree_of held)
 
--- what a line prints, and the steps that it adds, after the steps of a log
+-- what a line prints, and the steps that it adds, after the steps of a log; a sync and what speaks of the folder or of requests
+-- are told elsewhere
 abbrev pub line_text : List Step → Line → List ℕ
+line_text log Sync = []
+line_text log Local = []
+line_text log Requests = []
 line_text log Pull = pull_text (held (state_of log))
 line_text log Drive = drive_text (held (state_of log))
 line_text log line = request_text (state_of log) (request_of (held (state_of log)) line)
 
 abbrev pub line_steps : List Step → Line → List Step
 line_steps log line = request_steps (request_of (held (state_of log)) line)
-
--- what the lines print after the steps of a log
-abbrev pub played_from : List Step → List Line → List ℕ
-played_from log [] = []
-played_from log (line ∷ lines) = line_text log line ++ played_from (log ++ line_steps log line) lines
-
--- what the lines print on a new drive
-abbrev pub played : List Line → List ℕ
-played lines = played_from [] lines

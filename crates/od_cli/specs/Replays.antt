@@ -1,10 +1,10 @@
 -- What a replay does: from the bytes that its source has left to those that its sink was given.
-use Rattle.std.specs.Prelude.{◌≡◌, ℕ, ◌<◌, ◌≤◌, List, [], ◌∷◌, ◌++◌, length, take, codes, string_bytes, String, nat_eq, Bool, false, Option, Some, None, Result, Ok, Err}
+use Rattle.std.specs.Prelude.{◌≡◌, ◌⊎◌, ℕ, ◌<◌, ◌≤◌, List, [], ◌∷◌, ◌++◌, length, take, codes, string_bytes, String, nat_eq, Bool, false, Option, Some, None, Result, Ok, Err}
 use Rattle.std.specs.Cmp.Lexicographic.{pointwise}
 use Rattle.std.specs.Global.{Global}
 use Rattle.std.specs.Fmt.{decimal}
 use Rattle.od_cli.specs.declared.line.Line.{Line}
-use Rattle.od_cli.specs.Played.{played}
+use Rattle.od_cli.specs.Runs.{Played}
 use Rattle.od_cli.specs.Script.{script}
 
 -- how many bytes a script may have
@@ -15,23 +15,32 @@ most_bytes = 8388608
 abbrev pub bad_line_text : ℕ → List ℕ
 bad_line_text number = codes "line " ++ decimal number ++ codes " is not a script line\n"
 
--- what is to be written for what a text spells
-abbrev pub output_of : Result (List Line) ℕ → List ℕ
-output_of (Ok lines) = played lines
-output_of (Err number) = bad_line_text number
+-- what may be written for what a text spells
+abbrev pub IsOutputOf : Result (List Line) ℕ → List ℕ → Type 0
+IsOutputOf (Ok lines) text = Played lines text
+IsOutputOf (Err number) text = text ≡ bad_line_text number
 
-abbrev pub output : List ℕ → List ℕ
-output bytes = output_of (script bytes)
+abbrev pub IsOutput : List ℕ → List ℕ → Type 0
+IsOutput bytes text = IsOutputOf (script bytes) text
 
--- the text was a script, read to its end and not too long, and what was written is what it plays
-pub record Replays (text before after : Option (List ℕ)) : Type 0 where
+-- the text was a script, read to its end and not too long, and what was written is what a run of it prints
+pub record ReplaysScript (bytes written : List ℕ) (left after : Option (List ℕ)) : Type 0 where
+  pub lines : List Line
+  pub output : List ℕ
+  pub is_script : script bytes ≡ Ok lines
+  pub short : length bytes ≤ most_bytes
+  pub at_end : left ≡ Some []
+  pub played : Played lines output
+  pub printed : after ≡ Some (written ++ output)
+
+pub record Replays (text left before after : Option (List ℕ)) : Type 0 where
+  pub told : (bytes written : List ℕ) → text ≡ Some bytes → before ≡ Some written → ReplaysScript bytes written left after
+
+-- the line of this number is the first that is no script line, the text was read to its end and not too long, and that was
+-- written
+pub record TellsBadLine (number : ℕ) (text left before after : Option (List ℕ)) : Type 0 where
   pub told : (bytes written : List ℕ) → text ≡ Some bytes → before ≡ Some written
-      → (lines : List Line) × (script bytes ≡ Ok lines) × (length bytes ≤ most_bytes) × (after ≡ Some (written ++ played lines))
-
--- the line of this number is the first that is no script line, the text was not too long, and that was written
-pub record TellsBadLine (number : ℕ) (text before after : Option (List ℕ)) : Type 0 where
-  pub told : (bytes written : List ℕ) → text ≡ Some bytes → before ≡ Some written
-      → (script bytes ≡ Err number) × (length bytes ≤ most_bytes) × (after ≡ Some (written ++ bad_line_text number))
+      → (script bytes ≡ Err number) × (length bytes ≤ most_bytes) × (left ≡ Some []) × (after ≡ Some (written ++ bad_line_text number))
 
 -- nothing was written
 pub record WritesNothing (before after : Option (List ℕ)) : Type 0 where
@@ -45,9 +54,15 @@ pub record IsTooLong (text : Option (List ℕ)) : Type 0 where
 pub record IsShort (text : Option (List ℕ)) : Type 0 where
   pub told : (bytes : List ℕ) → text ≡ Some bytes → length bytes ≤ most_bytes
 
--- a first part of what was to be written was written
+-- a first part of what may be written for the text was written
 pub record WritesPart (text before after : Option (List ℕ)) : Type 0 where
-  pub told : (bytes written : List ℕ) → text ≡ Some bytes → before ≡ Some written → (n : ℕ) × (after ≡ Some (written ++ take n (output bytes)))
+  pub told : (bytes written : List ℕ) → text ≡ Some bytes → before ≡ Some written
+      → (output : List ℕ) × IsOutput bytes output × (n : ℕ) × (after ≡ Some (written ++ take n output))
+
+-- nothing was written, or such a part
+pub record WritesPartOrNothing (text before after : Option (List ℕ)) : Type 0 where
+  pub told : (bytes written : List ℕ) → text ≡ Some bytes → before ≡ Some written
+      → (after ≡ Some written) ⊎ ((output : List ℕ) × IsOutput bytes output × (n : ℕ) × (after ≡ Some (written ++ take n output)))
 
 -- whether the words give the command: the one word `replay`
 abbrev pub is_replay : List (String Global) → Bool

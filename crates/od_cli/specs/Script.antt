@@ -11,7 +11,7 @@ use Rattle.gd_item.specs.Tokens.{digits_value}
 use Rattle.od_cli.specs.declared.line.Content.{Content}
 use Rattle.od_cli.specs.declared.line.Content.TheVariants.{Text, Fill}
 use Rattle.od_cli.specs.declared.line.Line.{Line}
-use Rattle.od_cli.specs.declared.line.Line.TheVariants.{OtherPut, OtherMakeFolder, OtherMove, OtherRemove, Pull, Drive}
+use Rattle.od_cli.specs.declared.line.Line.TheVariants.{OtherPut, OtherMakeFolder, OtherMove, OtherRemove, Pull, Drive, Sync, Local, Requests}
 
 -- the lines of a text, the first of which begins with what was read already
 abbrev pub lines_from : List ℕ → List ℕ → List (List ℕ)
@@ -137,7 +137,10 @@ command_parts (Some parts) = cond (pointwise nat_eq parts.0 (codes "other")) (ot
 abbrev pub command : List ℕ → Option Line
 command text =
     cond (pointwise nat_eq text (codes "pull")) (Some Pull)
-    (cond (pointwise nat_eq text (codes "drive")) (Some Drive) (command_parts (first_word text)))
+    (cond (pointwise nat_eq text (codes "drive")) (Some Drive)
+    (cond (pointwise nat_eq text (codes "sync")) (Some Sync)
+    (cond (pointwise nat_eq text (codes "local")) (Some Local)
+    (cond (pointwise nat_eq text (codes "requests")) (Some Requests) (command_parts (first_word text))))))
 
 -- whether a line does nothing
 abbrev pub is_silent : List ℕ → Bool

@@ -1,6 +1,7 @@
 //! The commands of the client: what `odsync replay` does.
 #![tactic(auto)]
 
+mod counting;
 mod fault;
 mod line;
 mod lines;
@@ -13,6 +14,7 @@ mod replay;
 mod script;
 mod status;
 mod words;
+mod world;
 
 pub use line::{Content, Line};
 pub use replay::replay_main;

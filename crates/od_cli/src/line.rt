@@ -23,4 +23,10 @@ pub enum Line {
     Pull,
     /// The drive's change number and its tree.
     Drive,
+    /// A sync of the folder with the drive.
+    Sync,
+    /// The folder's tree.
+    Local,
+    /// How many requests of each kind this client made since the last such line.
+    Requests,
 }

@@ -1,5 +1,5 @@
 ghost use Rattle.std.specs.Prelude.{◌≡◌, IfOk};
-ghost use Rattle.od_cli.specs.Replays.{output, bad_line_of};
+ghost use Rattle.od_cli.specs.Replays.{IsOutput, bad_line_of};
 ghost use Rattle.od_cli.specs.Script.{script};
 
 use crate::play::play;
@@ -17,7 +17,7 @@ pub struct Output {
 
 /// Plays a script, or tells its first line that is no script line.
 pub fn make_output(alloc: Global, text: &[u8]) -> Result<Output, NoMemory>
-    ensures { IfOk result (λ made. (made.text ≡ output text.now) × (made.bad_line ≡ bad_line_of (script text.now))) }
+    ensures { IfOk result (λ made. IsOutput text.now made.text × (made.bad_line ≡ bad_line_of (script text.now))) }
 {
     match read_script(alloc, text) {
         Ok(lines) => {

@@ -1,18 +1,23 @@
-ghost use Rattle.std.specs.Prelude.{◌≡◌, ◌≢◌, ◌++◌, true, IfOk, OnOk};
+ghost use Rattle.std.specs.Prelude.{◌≡◌, ◌≢◌, ◌++◌, [], false, true, List, Some, IfOk, OnOk};
 ghost use Rattle.gd_item.specs.Answers.{unserved};
-ghost use Rattle.od_cli.specs.Played.{content_bytes, played, reply_text};
-ghost use Rattle.od_cli.specs.Plays.{IsAsked, IsDrive, Plays, is_change};
+ghost use Rattle.od_tree.specs.Memory as tree;
+ghost use Rattle.od_tree.specs.declared.step.LocalStep.{LocalStep};
+ghost use Rattle.od_cli.specs.Played.{content_bytes, reply_text};
+ghost use Rattle.od_cli.specs.Plays.{IsAsked, Plays, is_change};
+ghost use Rattle.od_cli.specs.Runs as runs;
+ghost use Rattle.od_cli.specs.RunStates.{PlaysTo, StandsFor};
 
+use crate::counting::{print_requests, steps_after};
 use crate::line::{Content, Line};
-use crate::print::print_refusal;
+use crate::print::{print_end, print_folder, print_refusal};
 use crate::pull::{print_drive, print_pull};
-use gd_api::Drive;
+use crate::world::World;
 use gd_item::{Address, Condition, ErrorCode, Reply, Request, split_last};
-use gd_names::{Bytes, Conflict, NoMemory, Path};
+use gd_names::{Bytes, Conflict, List, NoMemory, Path};
+use od_keeper::MemoryKeeper;
+use od_sync::{SyncEnd, sync_now};
+use od_tree::MemoryTree;
 use std::alloc::Global;
-
-/// How many items a list of the drive has at most.
-const PAGE_SIZE: u64 = 200;
 
 /// The bytes of a content.
 fn make_bytes(alloc: Global, content: &Content) -> Result<Bytes, NoMemory>
@@ -27,41 +32,34 @@ fn make_bytes(alloc: Global, content: &Content) -> Result<Bytes, NoMemory>
     }
 }
 
-/// Prints a reply, if it is a refusal. Want of memory is none.
+/// Prints a reply, if it is a refusal.
 fn print_reply(alloc: Global, out: &mut Bytes, reply: &Reply) -> Result<(), NoMemory>
-    ensures printed { OnOk result (out.new ≡ out.old ++ reply_text reply.now) }
-    ensures served { OnOk result (reply.now ≢ unserved) }
+    ensures { OnOk result (out.new ≡ out.old ++ reply_text reply.now) }
 {
     match reply {
-        Reply::Refused { status, code } => {
-            if *status == 503 {
-                return Err(NoMemory);
-            }
-            print_refusal(alloc, out, *status, *code)
-        }
+        Reply::Refused { status, code } => print_refusal(alloc, out, *status, *code),
         _ => Ok(()),
     }
 }
 
 /// Another client asks the drive, and its refusal is printed.
-fn ask(alloc: Global, drive: &mut Drive, out: &mut Bytes, request: &Request) -> Result<(), NoMemory>
-    requires { is_change request.now ≡ true }
-    ensures { OnOk result (IsAsked drive.old drive.new out.old out.new request.now) }
+fn ask(alloc: Global, world: &mut World, out: &mut Bytes, request: Request) -> Result<(), NoMemory>
+    requires { is_change request ≡ true }
+    ensures { OnOk result (IsAsked world.old world.new out.old out.new request) }
 {
-    let reply = drive.handle(request);
+    let reply = world.other(request)?;
     print_reply(alloc, out, &reply)
 }
 
 /// Another client puts a file at a path.
 fn put(
     alloc: Global,
-    drive: &mut Drive,
+    world: &mut World,
     out: &mut Bytes,
     path: &Path,
     content: &Content,
 ) -> Result<(), NoMemory>
-    requires { IsDrive drive.old }
-    ensures { OnOk result (Plays drive.old drive.new out.old out.new (Line.OtherPut path.now content.now)) }
+    ensures { OnOk result (Plays world.old world.new out.old out.new (Line.OtherPut path.now content.now)) }
 {
     let bytes = make_bytes(alloc, content)?;
     let path = path.clone()?;
@@ -71,18 +69,17 @@ fn put(
         behaviour: Conflict::Replace,
         condition: Condition::Free,
     };
-    ask(alloc, drive, out, &request)
+    ask(alloc, world, out, request)
 }
 
 /// Another client makes a folder at a path.
 fn make_folder(
     alloc: Global,
-    drive: &mut Drive,
+    world: &mut World,
     out: &mut Bytes,
     path: &Path,
 ) -> Result<(), NoMemory>
-    requires { IsDrive drive.old }
-    ensures { OnOk result (Plays drive.old drive.new out.old out.new (Line.OtherMakeFolder path.now)) }
+    ensures { OnOk result (Plays world.old world.new out.old out.new (Line.OtherMakeFolder path.now)) }
 {
     let (above, name) = split_last(alloc, path)?;
     let request = Request::MakeFolder {
@@ -90,23 +87,22 @@ fn make_folder(
         name,
         behaviour: Conflict::Fail,
     };
-    ask(alloc, drive, out, &request)
+    ask(alloc, world, out, request)
 }
 
 /// Another client moves an item to a path, whose folder may be missing.
 fn move_item(
     alloc: Global,
-    drive: &mut Drive,
+    world: &mut World,
     out: &mut Bytes,
     from: &Path,
     to: &Path,
 ) -> Result<(), NoMemory>
-    requires { IsDrive drive.old }
-    ensures { OnOk result (Plays drive.old drive.new out.old out.new (Line.OtherMove from.now to.now)) }
+    ensures { OnOk result (Plays world.old world.new out.old out.new (Line.OtherMove from.now to.now)) }
 {
     let (above, name) = split_last(alloc, to)?;
     let path = from.clone()?;
-    match drive.store().by_path(&above) {
+    match world.store().by_path(&above) {
         None => print_refusal(alloc, out, 404, ErrorCode::ItemNotFound),
         Some(parent) => {
             let request = Request::Patch {
@@ -115,47 +111,96 @@ fn move_item(
                 parent: Some(parent),
                 condition: Condition::Free,
             };
-            ask(alloc, drive, out, &request)
+            ask(alloc, world, out, request)
         }
     }
 }
 
 /// Another client removes what stands at a path.
-fn remove(alloc: Global, drive: &mut Drive, out: &mut Bytes, path: &Path) -> Result<(), NoMemory>
-    requires { IsDrive drive.old }
-    ensures { OnOk result (Plays drive.old drive.new out.old out.new (Line.OtherRemove path.now)) }
+fn remove(alloc: Global, world: &mut World, out: &mut Bytes, path: &Path) -> Result<(), NoMemory>
+    ensures { OnOk result (Plays world.old world.new out.old out.new (Line.OtherRemove path.now)) }
 {
     let path = path.clone()?;
     let request = Request::Delete {
         at: Address::ByPath(path),
         condition: Condition::Free,
     };
-    ask(alloc, drive, out, &request)
+    ask(alloc, world, out, request)
 }
 
-/// Plays one line.
-fn play_line(alloc: Global, drive: &mut Drive, out: &mut Bytes, line: &Line) -> Result<(), NoMemory>
-    requires { IsDrive drive.old }
-    ensures { OnOk result (Plays drive.old drive.new out.old out.new line.now) }
-{
-    match line {
-        Line::OtherPut(path, content) => put(alloc, drive, out, path, content),
-        Line::OtherMakeFolder(path) => make_folder(alloc, drive, out, path),
-        Line::OtherMove(from, to) => move_item(alloc, drive, out, from, to),
-        Line::OtherRemove(path) => remove(alloc, drive, out, path),
-        Line::Pull => print_pull(alloc, drive, out),
-        Line::Drive => print_drive(alloc, drive, out),
+/// The drive, the folder and the keeper of a run, and how many steps of the drive's log earlier `requests` lines told.
+#[derive(Debug, Drop)]
+struct Run {
+    world: World,
+    folder: MemoryTree,
+    keeper: MemoryKeeper,
+    counted: usize,
+}
+
+impl Run {
+    /// A new drive, an empty folder and an empty keeper.
+    fn new(alloc: Global) -> Result<Run, NoMemory>
+        ensures { IfOk result (λ run. StandsFor run.world run.folder run.keeper run.counted runs.new_run) }
+    {
+        let world = World::new(alloc)?;
+        Ok(Run {
+            world,
+            folder: MemoryTree::new(alloc, List::new(alloc), List::new(alloc)),
+            keeper: MemoryKeeper::new(alloc, List::new(alloc)),
+            counted: 0,
+        })
+    }
+
+    /// Syncs the folder with the drive, and prints how that ended.
+    fn sync(&mut self, alloc: Global, out: &mut Bytes) -> Result<(), NoMemory>
+        ensures { OnOk result ((value : runs.Run) → StandsFor self.old.world self.old.folder self.old.keeper self.old.counted value
+            → PlaysTo self.new.world self.new.folder self.new.keeper self.new.counted value Line.Sync out.old out.new) }
+    {
+        match sync_now(alloc, &mut self.world, &mut self.folder, &mut self.keeper) {
+            SyncEnd::Memory => Err(NoMemory),
+            end => print_end(alloc, out, end),
+        }
+    }
+
+    /// Prints the folder's tree.
+    fn print_local(&self, alloc: Global, out: &mut Bytes) -> Result<(), NoMemory>
+        ensures { OnOk result ((local : List LocalStep) → tree.log_of self.now.folder ≡ Some local → out.new ≡ out.old ++ runs.local_text local) }
+    {
+        let entries = self.folder.entries(alloc)?;
+        print_folder(alloc, out, entries.as_slice())
+    }
+
+    /// Plays one line.
+    fn play(&mut self, alloc: Global, out: &mut Bytes, line: &Line) -> Result<(), NoMemory>
+        ensures { OnOk result ((value : runs.Run) → StandsFor self.old.world self.old.folder self.old.keeper self.old.counted value
+            → PlaysTo self.new.world self.new.folder self.new.keeper self.new.counted value line.now out.old out.new) }
+    {
+        match line {
+            Line::OtherPut(path, content) => put(alloc, &mut self.world, out, path, content),
+            Line::OtherMakeFolder(path) => make_folder(alloc, &mut self.world, out, path),
+            Line::OtherMove(from, to) => move_item(alloc, &mut self.world, out, from, to),
+            Line::OtherRemove(path) => remove(alloc, &mut self.world, out, path),
+            Line::Pull => print_pull(alloc, &mut self.world, out),
+            Line::Drive => print_drive(alloc, &self.world, out),
+            Line::Sync => self.sync(alloc, out),
+            Line::Local => self.print_local(alloc, out),
+            Line::Requests => {
+                print_requests(alloc, out, steps_after(self.world.log(), self.counted))?;
+                self.counted = self.world.log().len();
+                Ok(())
+            }
+        }
     }
 }
 
-/// Plays the lines on a new drive, and gives what they print.
+/// Plays the lines on a new drive and an empty folder, and gives what they print.
 pub fn play(alloc: Global, lines: &[Line]) -> Result<Bytes, NoMemory>
-    ensures { IfOk result (λ text. text ≡ played lines.now) }
+    ensures { IfOk result (λ text. runs.Played lines.now text) }
 {
-    let mut drive = Drive::new(alloc, PAGE_SIZE)?;
+    let mut run = Run::new(alloc)?;
     let mut out = Bytes::new(alloc);
     for line in lines {
-        play_line(alloc, &mut drive, &mut out, line)?;
+        run.play(alloc, &mut out, line)?;
     }
     Ok(out)
 }

@@ -1,17 +1,20 @@
 ghost use Rattle.std.specs.Prelude.{◌≡◌, ◌++◌, List, Some, codes, length, IfOk, OnOk};
 ghost use Rattle.std.specs.List.{flat_map};
 ghost use Rattle.std.specs.Fmt.{decimal};
+ghost use Rattle.gd_item.specs.Ids.{id_text};
 ghost use Rattle.gd_item.specs.Inventory.{Effect, inventory};
 ghost use Rattle.gd_item.specs.Versions.{content_at, version_at};
 ghost use Rattle.gd_store.specs.Stands.{Stands};
-ghost use Rattle.od_cli.specs.Played.{content_text, refusal_line};
+ghost use Rattle.od_cli.specs.Played.{content_line, content_text, refusal_line};
 ghost use Rattle.od_cli.specs.Pulled.{item_line, shown_line};
 ghost use Rattle.od_cli.specs.Replays.{bad_line_text};
+ghost use Rattle.od_cli.specs.Runs.{sync_text};
 
 use crate::words::holds_plain;
 use gd_item::{ErrorCode, Item, ItemId, Kind, StoreFault, digest_of};
 use gd_names::{Bytes, NoMemory, Path};
 use gd_store::Store;
+use od_sync::SyncEnd;
 use std::alloc::Global;
 
 /// How many bytes a content may have that is shown.
@@ -153,4 +156,69 @@ pub fn print_contents(
         print_shown(alloc, out, store, path, item)?;
     }
     Ok(())
+}
+
+/// An entry of the folder at its path.
+fn print_entry(
+    alloc: Global,
+    out: &mut Bytes,
+    entry: &(Path, Option<Bytes>),
+) -> Result<(), NoMemory>
+    ensures { OnOk result (out.new ≡ out.old ++ content_line entry.now) }
+{
+    let path = entry.0.write(alloc)?;
+    let path = path.as_str();
+    match &entry.1 {
+        Some(bytes) => print_file(alloc, out, path, bytes.as_slice()),
+        None => {
+            let text = format!(in alloc; "{path}/\n")?;
+            out.push_slice(text.as_bytes())
+        }
+    }
+}
+
+/// What `local` prints of the entries of a folder.
+pub fn print_folder(
+    alloc: Global,
+    out: &mut Bytes,
+    entries: &[(Path, Option<Bytes>)],
+) -> Result<(), NoMemory>
+    ensures { OnOk result (out.new ≡ out.old ++ (codes "local\n" ++ flat_map content_line entries.now)) }
+{
+    out.push_slice(b"local\n")?;
+    for entry in entries {
+        print_entry(alloc, out, entry)?;
+    }
+    Ok(())
+}
+
+fn print_item_id(alloc: Global, out: &mut Bytes, id: &str) -> Result<(), NoMemory>
+    ensures { OnOk result (out.new ≡ out.old ++ (codes "item " ++ id.now ++ codes "\nsync BadReply\n")) }
+{
+    let text = format!(in alloc; "item {id}\nsync BadReply\n")?;
+    out.push_slice(text.as_bytes())
+}
+
+/// The lines of a sync that an item ended.
+fn print_bad_pages(alloc: Global, out: &mut Bytes, id: ItemId) -> Result<(), NoMemory>
+    ensures { OnOk result (out.new ≡ out.old ++ (codes "item " ++ id_text id.0 ++ codes "\nsync BadReply\n")) }
+{
+    let id = id.write(alloc)?;
+    print_item_id(alloc, out, id.as_str())
+}
+
+/// The line, or lines, of a sync that ended so.
+pub fn print_end(alloc: Global, out: &mut Bytes, end: SyncEnd) -> Result<(), NoMemory>
+    ensures { OnOk result (out.new ≡ out.old ++ sync_text end) }
+{
+    match end {
+        SyncEnd::Settled => out.push_slice(b"sync Settled\n"),
+        SyncEnd::Unsettled => out.push_slice(b"sync Unsettled\n"),
+        SyncEnd::LinkFault => out.push_slice(b"sync LinkFault\n"),
+        SyncEnd::TreeFault => out.push_slice(b"sync TreeFault\n"),
+        SyncEnd::KeeperFault => out.push_slice(b"sync KeeperFault\n"),
+        SyncEnd::BadPages(id) => print_bad_pages(alloc, out, id),
+        SyncEnd::Unserved => out.push_slice(b"sync Unserved\n"),
+        SyncEnd::Memory => Ok(()),
+    }
 }

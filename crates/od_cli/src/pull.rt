@@ -1,18 +1,17 @@
-ghost use Rattle.std.specs.Prelude.{◌≡◌, ◌++◌, [], List, None, OnOk, IfOk, IfSome};
+ghost use Rattle.std.specs.Prelude.{◌≡◌, ◌++◌, [], List, None, OnOk, IfOk};
 ghost use Rattle.std.specs.Map.{values_of};
 ghost use Rattle.gd_item.specs.Inventory.{Effect, inventory};
 ghost use Rattle.gd_item.specs.Steps.{held_by};
-ghost use Rattle.gd_item.specs.declared.step.Step.{Step};
-ghost use Rattle.gd_api.specs.Drives as drives;
 ghost use Rattle.gd_store.specs.Stands.{Stands};
 ghost use Rattle.od_cli.specs.Played.{drive_text};
-ghost use Rattle.od_cli.specs.Plays.{IsDrive, Plays, with_other};
+ghost use Rattle.od_cli.specs.Plays.{Plays};
 ghost use Rattle.od_cli.specs.Pulled.{whole_items, IsWhole};
+ghost use Rattle.od_cli.specs.Worlds.{with_other};
 ghost use Rattle.od_mirror.specs.Pulled.{with_records, paths_of, taken_of};
 
 use crate::line::Line;
 use crate::print::{print_contents, print_items, print_number};
-use gd_api::Drive;
+use crate::world::World;
 use gd_item::{Item, Page, PageLink, Reply, Request};
 use gd_names::{Bytes, List, NoMemory, Path, Text};
 use gd_store::Store;
@@ -46,29 +45,24 @@ fn paths_in(alloc: Global, page: &Page) -> Result<List<(Path, Item)>, NoMemory>
     Ok(paths)
 }
 
-/// The page that another client gets for a fresh enumeration. None is want of memory.
-fn ask_page(drive: &mut Drive) -> Option<Page>
-    requires { IsDrive drive.old }
-    ensures whole { IfSome result (λ page. IsWhole page) }
-    ensures page { IfSome result (λ page. (log : List Step) → drives.Stands drive.old log
-        → (page.items ≡ whole_items (held_by log)) × drives.Stands drive.new (with_other log (Request.Delta None))) }
-    ensures size { drive.new.size ≡ drive.old.size }
+/// The page that another client gets for a fresh enumeration.
+fn ask_page(world: &mut World) -> Result<Page, NoMemory>
+    ensures whole { IfOk result (λ page. IsWhole page) }
+    ensures items { IfOk result (λ page. page.items ≡ whole_items (held_by world.old.log)) }
+    ensures log { IfOk result (λ page. world.new ≡ record world.old { log = with_other world.old.log (Request.Delta None) }) }
 {
-    match drive.handle(&Request::Delta { token: None }) {
-        Reply::Page(page) => Some(page),
-        _ => None,
+    match world.other(Request::Delta { token: None })? {
+        Reply::Page(page) => Ok(page),
+        _ => unreachable!(),
     }
 }
 
 /// A fresh pull by another client, without a database, and what it prints.
-pub fn print_pull(alloc: Global, drive: &mut Drive, out: &mut Bytes) -> Result<(), NoMemory>
-    requires { IsDrive drive.old }
-    ensures { OnOk result (Plays drive.old drive.new out.old out.new Line.Pull) }
+pub fn print_pull(alloc: Global, world: &mut World, out: &mut Bytes) -> Result<(), NoMemory>
+    ensures { OnOk result (Plays world.old world.new out.old out.new Line.Pull) }
 {
-    let number = drive.store().number();
-    let Some(page) = ask_page(drive) else {
-        return Err(NoMemory);
-    };
+    let number = world.store().number();
+    let page = ask_page(world)?;
     let paths = paths_in(alloc, &page)?;
     print_number(alloc, out, "pull", number)?;
     print_items(alloc, out, paths.as_slice())
@@ -104,9 +98,8 @@ fn print_store(alloc: Global, store: &Store, out: &mut Bytes) -> Result<(), NoMe
 }
 
 /// What `drive` prints.
-pub fn print_drive(alloc: Global, drive: &Drive, out: &mut Bytes) -> Result<(), NoMemory>
-    requires { IsDrive drive.now }
-    ensures { OnOk result (Plays drive.now drive.now out.old out.new Line.Drive) }
+pub fn print_drive(alloc: Global, world: &World, out: &mut Bytes) -> Result<(), NoMemory>
+    ensures { OnOk result (Plays world.now world.now out.old out.new Line.Drive) }
 {
-    print_store(alloc, drive.store(), out)
+    print_store(alloc, world.store(), out)
 }

@@ -1,4 +1,4 @@
-ghost use Rattle.std.specs.Prelude.{◌≡◌, ◌≤◌, ◌<◌, length, Some, List, ℕ, IfOk, IsErrOf};
+ghost use Rattle.std.specs.Prelude.{◌≡◌, ◌≤◌, ◌<◌, [], length, Some, List, ℕ, IfOk, IsErrOf};
 ghost use Rattle.gd_names.specs.Streams.{Rose};
 ghost use Rattle.od_cli.specs.Replays.{most_bytes, IsTooLong};
 
@@ -21,7 +21,7 @@ pub enum ReadEnd {
 
 /// Reads a source to its end, at most so many bytes as a script may have.
 pub fn read_all<I: Source>(alloc: Global, source: &mut I) -> Result<Bytes, ReadEnd>
-    ensures all { IfOk result (λ text. (length text ≤ most_bytes) × ((left : List ℕ) → I.left source.old ≡ Some left → text ≡ left)) }
+    ensures all { IfOk result (λ text. (length text ≤ most_bytes) × ((left : List ℕ) → I.left source.old ≡ Some left → (text ≡ left) × (I.left source.new ≡ Some []))) }
     ensures long { IsErrOf result ReadEnd.TooLong → IsTooLong (I.left source.old) }
     ensures fault { IsErrOf result ReadEnd.Fault → Rose (I.faults source.old) (I.faults source.new) }
     ensures later { I.faults source.old ≤ I.faults source.new }

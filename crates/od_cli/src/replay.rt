@@ -1,6 +1,6 @@
 ghost use Rattle.std.specs.Prelude.{◌≡◌, ℕ, false, OnOk, IsErrOf};
 ghost use Rattle.gd_names.specs.Streams.{Rose};
-ghost use Rattle.od_cli.specs.Replays.{is_replay, IsShort, IsTooLong, Replays, TellsBadLine, WritesNothing, WritesPart};
+ghost use Rattle.od_cli.specs.Replays.{is_replay, IsShort, IsTooLong, Replays, TellsBadLine, WritesNothing, WritesPart, WritesPartOrNothing};
 
 use crate::output::make_output;
 use crate::read::read_all;
@@ -24,14 +24,14 @@ fn replay<I: Source, S: Sink>(
     source: &mut I,
     sink: &mut S,
 ) -> Result<(), ReplayStatus>
-    ensures replayed { OnOk result (Replays (I.left source.old) (S.written sink.old) (S.written sink.new)) }
+    ensures replayed { OnOk result (Replays (I.left source.old) (I.left source.new) (S.written sink.old) (S.written sink.new)) }
     ensures not_replayed { IsErrOf result ReplayStatus.Replayed → ⊥ }
     ensures not_usage { IsErrOf result ReplayStatus.Usage → ⊥ }
-    ensures bad_line { (number : ℕ) → IsErrOf result (ReplayStatus.BadLine number) → TellsBadLine number (I.left source.old) (S.written sink.old) (S.written sink.new) }
+    ensures bad_line { (number : ℕ) → IsErrOf result (ReplayStatus.BadLine number) → TellsBadLine number (I.left source.old) (I.left source.new) (S.written sink.old) (S.written sink.new) }
     ensures too_long { IsErrOf result ReplayStatus.TooLong → IsTooLong (I.left source.old) × WritesNothing (S.written sink.old) (S.written sink.new) }
     ensures read { IsErrOf result ReplayStatus.ReadFault → Rose (I.faults source.old) (I.faults source.new) × WritesNothing (S.written sink.old) (S.written sink.new) }
     ensures write { IsErrOf result ReplayStatus.WriteFault → Rose (S.faults sink.old) (S.faults sink.new) × IsShort (I.left source.old) × WritesPart (I.left source.old) (S.written sink.old) (S.written sink.new) }
-    ensures memory { IsErrOf result ReplayStatus.Memory → WritesPart (I.left source.old) (S.written sink.old) (S.written sink.new) }
+    ensures memory { IsErrOf result ReplayStatus.Memory → WritesPartOrNothing (I.left source.old) (S.written sink.old) (S.written sink.new) }
 {
     let text = read_all(alloc, source)?;
     let made = make_output(alloc, text.as_slice())?;
@@ -52,12 +52,12 @@ pub fn replay_main<I: Source, S: Sink>(
 ) -> ReplayStatus
     ensures usage { result ≡ ReplayStatus.Usage → is_replay words.now ≡ false }
     ensures words { is_replay words.now ≡ false → (result ≡ ReplayStatus.Usage) × (source.new ≡ source.old) × (sink.new ≡ sink.old) }
-    ensures replayed { result ≡ ReplayStatus.Replayed → Replays (I.left source.old) (S.written sink.old) (S.written sink.new) }
-    ensures bad_line { (number : ℕ) → result ≡ ReplayStatus.BadLine number → TellsBadLine number (I.left source.old) (S.written sink.old) (S.written sink.new) }
+    ensures replayed { result ≡ ReplayStatus.Replayed → Replays (I.left source.old) (I.left source.new) (S.written sink.old) (S.written sink.new) }
+    ensures bad_line { (number : ℕ) → result ≡ ReplayStatus.BadLine number → TellsBadLine number (I.left source.old) (I.left source.new) (S.written sink.old) (S.written sink.new) }
     ensures too_long { result ≡ ReplayStatus.TooLong → IsTooLong (I.left source.old) × WritesNothing (S.written sink.old) (S.written sink.new) }
     ensures read { result ≡ ReplayStatus.ReadFault → Rose (I.faults source.old) (I.faults source.new) × WritesNothing (S.written sink.old) (S.written sink.new) }
     ensures write { result ≡ ReplayStatus.WriteFault → Rose (S.faults sink.old) (S.faults sink.new) × IsShort (I.left source.old) × WritesPart (I.left source.old) (S.written sink.old) (S.written sink.new) }
-    ensures memory { result ≡ ReplayStatus.Memory → WritesPart (I.left source.old) (S.written sink.old) (S.written sink.new) }
+    ensures memory { result ≡ ReplayStatus.Memory → WritesPartOrNothing (I.left source.old) (S.written sink.old) (S.written sink.new) }
 {
     if !is_command(words) {
         return ReplayStatus::Usage;

@@ -95,6 +95,15 @@ fn read_command(alloc: Global, text: &[u8]) -> Result<Line, LineFault>
     if text == b"drive".as_slice() {
         return Ok(Line::Drive);
     }
+    if text == b"sync".as_slice() {
+        return Ok(Line::Sync);
+    }
+    if text == b"local".as_slice() {
+        return Ok(Line::Local);
+    }
+    if text == b"requests".as_slice() {
+        return Ok(Line::Requests);
+    }
     let Some((word, rest)) = first_word(text) else {
         return Err(LineFault::Bad);
     };

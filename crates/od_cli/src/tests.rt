@@ -39,7 +39,7 @@ fn scripts(rt: HostRuntime) -> Result<(), Fail> {
             ReplayStatus::Replayed,
         ),
         (
-            "pull\nsync\n",
+            "sync\nwhat\n",
             "line 2 is not a script line\n",
             ReplayStatus::BadLine(2),
         ),
@@ -82,6 +82,47 @@ fn scripts(rt: HostRuntime) -> Result<(), Fail> {
             Vec::new(alloc),
         )?;
         assert_eq!(rt; ended, status, "at {script}");
+        assert_eq!(rt; written.as_slice(), output.as_bytes(), "at {script}");
+    }
+    Ok(())
+}
+
+/// A sync fetches what the drive has at free paths, asks for the changes alone, and ends Unsettled where a path is not free.
+#[test]
+fn syncs(rt: HostRuntime) -> Result<(), Fail> {
+    let alloc = rt.alloc();
+    let rows: [(&str, &str); 7] = [
+        ("sync\nrequests\n", "sync Settled\nrequests delta 1\n"),
+        (
+            "other put /a.txt \"hi\"\nsync\nlocal\ndrive\nrequests\n",
+            "sync Settled\nlocal\n/a.txt 2 \"hi\"\ndrive 2\n/a.txt 2 \"hi\"\nrequests content 1 download 1 delta 2\n",
+        ),
+        (
+            "other mkdir /d\nother put /d/f \"1\"\nother mkdir /e\nsync\nlocal\n",
+            "sync Settled\nlocal\n/d/\n/d/f 1 \"1\"\n/e/\n",
+        ),
+        (
+            "other put /a \"1\"\nsync\nother put /b \"2\"\nsync\nlocal\nrequests\n",
+            "sync Settled\nsync Settled\nlocal\n/a 1 \"1\"\n/b 1 \"2\"\nrequests content 2 download 2 delta 4\n",
+        ),
+        (
+            "other put /a \"1\"\nsync\nother put /a \"2\"\nsync\nlocal\n",
+            "sync Settled\nsync Unsettled\nlocal\n/a 1 \"1\"\n",
+        ),
+        (
+            "other put /d \"1\"\nsync\nother rm /d\nother mkdir /d\nother put /d/f \"2\"\nrequests\nsync\nrequests\n",
+            "sync Settled\nrequests content 1 download 1 delta 2\nsync Unsettled\nrequests delta 3\n",
+        ),
+        ("requests\nlocal\n", "requests\nlocal\n"),
+    ];
+    for (script, output) in rows {
+        let (ended, written) = replay_text(
+            alloc,
+            script.as_bytes(),
+            Vec::new(alloc),
+            Vec::new(alloc),
+        )?;
+        assert_eq!(rt; ended, ReplayStatus::Replayed, "at {script}");
         assert_eq!(rt; written.as_slice(), output.as_bytes(), "at {script}");
     }
     Ok(())

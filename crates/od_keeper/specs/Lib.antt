@@ -3,3 +3,4 @@ pub mod Inserting
 pub mod Keeping
 pub mod Memory
 pub mod Sound
+pub mod Undisturbed

@@ -1,5 +1,5 @@
 -- What the keeper in memory tells.
-use Rattle.std.specs.Prelude.{ℕ, List, Option, Some}
+use Rattle.std.specs.Prelude.{ℕ, Bool, true, false, List, [], ◌∷◌, Option, Some}
 use Rattle.od_keeper.specs.declared.image.Image.{Image}
 use Rattle.od_keeper.specs.declared.memory.MemoryKeeper.{MemoryKeeper}
 
@@ -14,3 +14,11 @@ faults_of keeper = keeper.faults
 -- the calls at which it fails
 abbrev pub failing_of : MemoryKeeper → List ℕ
 failing_of keeper = keeper.failing
+
+-- whether there are none
+abbrev pub is_empty : List ℕ → Bool
+is_empty [] = true
+is_empty (call ∷ calls) = false
+
+abbrev pub is_undisturbed : MemoryKeeper → Bool
+is_undisturbed keeper = is_empty (failing_of keeper)

@@ -1,4 +1,4 @@
-ghost use Rattle.std.specs.Prelude.{◌≡◌, ℕ, List, Option};
+ghost use Rattle.std.specs.Prelude.{◌≡◌, ℕ, Bool, List, Option};
 
 use crate::fault::KeeperFault;
 use crate::image::{Change, Image};
@@ -7,6 +7,7 @@ use std::alloc::Global;
 /// Keeps the image from one run of the client to the next.
 pub trait Keeper {
     ghost use Rattle.od_keeper.specs.Keeping.{Loads, Commits, HasKeeperCause};
+    ghost use Rattle.od_keeper.specs.Undisturbed.{Undisturbed};
     ghost use Rattle.od_keeper.specs.declared.image.Image.{Image};
 
     /// The images that were committed, where they are told. The empty one of the beginning is none of them.
@@ -15,13 +16,18 @@ pub trait Keeper {
     /// How often it has failed, up to the last value of a u64.
     ghost faults: { Self → ℕ };
 
+    /// Whether no call fails from now on.
+    ghost undisturbed: { Self → Bool };
+
     /// The image that was committed last, and at first the empty one.
     fn load(&mut self, alloc: Global) -> Result<Image, KeeperFault>
         ensures images { Loads (images self.old) (images self.new) result }
-        ensures cause { HasKeeperCause (faults self.old) (faults self.new) result };
+        ensures cause { HasKeeperCause (faults self.old) (faults self.new) result }
+        ensures undisturbed { Undisturbed (undisturbed self.old) (undisturbed self.new) (faults self.old) (faults self.new) };
 
     /// Applies a change to the last image, whole or not at all.
     fn commit(&mut self, change: &Change) -> Result<(), KeeperFault>
         ensures images { Commits change.now (images self.old) (images self.new) result }
-        ensures cause { HasKeeperCause (faults self.old) (faults self.new) result };
+        ensures cause { HasKeeperCause (faults self.old) (faults self.new) result }
+        ensures undisturbed { Undisturbed (undisturbed self.old) (undisturbed self.new) (faults self.old) (faults self.new) };
 }

@@ -10,6 +10,7 @@ mod memory;
 #[cfg(test)]
 mod tests;
 
+pub use apply::{applied, empty_image};
 pub use fault::KeeperFault;
 pub use image::{Agreed, BaseRow, Change, Image};
 pub use keeper::Keeper;

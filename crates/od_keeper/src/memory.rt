@@ -1,7 +1,8 @@
-ghost use Rattle.std.specs.Prelude.{◌≡◌, ◌≤◌, [], Some, IfOk, MatchBool};
+ghost use Rattle.std.specs.Prelude.{◌≡◌, ◌≤◌, true, false, [], Some, IfOk, MatchBool};
 ghost use Rattle.gd_names.specs.Streams.{Rose};
 ghost use Rattle.od_keeper.specs.Images.{applied};
 ghost use Rattle.od_keeper.specs.Keeping.{last_image};
+ghost use Rattle.od_keeper.specs.Memory.{is_empty};
 
 use crate::apply::{applied, empty_image};
 use crate::fault::KeeperFault;
@@ -42,6 +43,8 @@ impl MemoryKeeper {
         ensures images { self.new.images ≡ self.old.images }
         ensures faults { MatchBool result (Rose self.old.faults self.new.faults) (self.new.faults ≡ self.old.faults) }
         ensures later { self.old.faults ≤ self.new.faults }
+        ensures failing { self.new.failing ≡ self.old.failing }
+        ensures undisturbed { is_empty self.old.failing ≡ true → result ≡ false }
     {
         self.calls = self.calls.saturating_add(1);
         if self.failing.as_slice().contains(&self.calls) {
@@ -76,11 +79,13 @@ fn next_of(alloc: Global, change: &Change, images: &[Image]) -> Result<Image, No
 }
 
 impl Keeper for MemoryKeeper {
-    ghost use Rattle.od_keeper.specs.Memory.{images_of, faults_of};
+    ghost use Rattle.od_keeper.specs.Memory.{images_of, faults_of, is_undisturbed};
 
     ghost images = { λ k. images_of k };
 
     ghost faults = { λ k. faults_of k };
+
+    ghost undisturbed = { λ k. is_undisturbed k };
 
     fn load(&mut self, alloc: Global) -> Result<Image, KeeperFault> {
         if self.fails() {

@@ -1,31 +1,22 @@
--- Trees that compare as the same are the same, where no bytes of the one have the digest of other bytes of the other.
-use Rattle.std.proofs.Common.{◌≡◌, ℕ, Bool, true, false, ◌&&◌, ◌||◌, List, [], ◌∷◌, map, nat_eq, Option, Some, None, refl, ap, sym, ◌∙◌}
+-- Trees that compare as the same are the same, where no two unlike contents have one digest, and trees that are the same
+-- compare as the same.
+use Rattle.std.proofs.Common.{◌≡◌, ℕ, Bool, true, false, ◌&&◌, List, [], ◌∷◌, map, nat_eq, Option, Some, None, refl, ap, sym, ◌∙◌}
 use Rattle.std.proofs.lemmas.Bool.{eq-eqb}
 use Rattle.std.specs.Cmp.Lexicographic.{pointwise, same_text}
-use Rattle.gd_item.specs.Records.{digest_record, kind_at, record_of}
-use Rattle.gd_item.specs.declared.digest.Digest.{Digest}
+use Rattle.std.specs.List.{AllByRecursion, Contains}
+use Rattle.sha2.specs.Sha256.{sha256}
+use Rattle.gd_item.specs.Records.{kind_at, record_of}
 use Rattle.gd_item.specs.declared.item.Item.{Item}
 use Rattle.gd_item.specs.declared.live.LiveItem.{LiveItem}
-use Rattle.gd_item.specs.Inventory.{Inventory}
-use Rattle.gd_item.specs.Sound.{IsItemMap}
-use Rattle.gd_item.specs.Trees.{tree_of, in_order}
-use Rattle.gd_item.specs.Records.{records_of}
-use Rattle.od_mirror.specs.Drive.{placed_items}
-use Rattle.od_mirror.specs.Pulled.{paths_of}
-use Rattle.od_mirror.proofs.Standing.{paths-of-placed, tree-of-placed}
-use Rattle.od_sync.specs.Comparing.{is_same, is_same_entry, is_same_node, node_of, scanned, is_bytes, is_content, NoCollision}
+use Rattle.od_sync.specs.Comparing.{is_same, is_same_entry, is_same_node, node_of, scanned}
 
 pub both : (a b : Bool) → (a && b) ≡ true → (a ≡ true) × (b ≡ true)
 both true b is = (refl, is)
 both false b is = absurd (cc is)
 
-or-true : (a b : Bool) → b ≡ true → (a || b) ≡ true
-or-true true b is = refl
-or-true false b is = is
-
-or-first : (a b : Bool) → a ≡ true → (a || b) ≡ true
-or-first true b is = refl
-or-first false b is = absurd (cc is)
+two : (a b : Bool) → a ≡ true → b ≡ true → (a && b) ≡ true
+two true b first second = second
+two false b first second = absurd (cc first)
 
 nat-self : (n : ℕ) → nat_eq n n ≡ true
 nat-self n = eq-eqb n n refl
@@ -33,6 +24,10 @@ nat-self n = eq-eqb n n refl
 pub text-self : (xs : List ℕ) → pointwise nat_eq xs xs ≡ true
 text-self [] = refl
 text-self (x ∷ xs) = rw (nat-self x) (text-self xs)
+
+path-self : (path : List (List ℕ)) → pointwise (pointwise nat_eq) path path ≡ true
+path-self [] = refl
+path-self (name ∷ path) = rw (text-self name) (path-self path)
 
 pub same-path : (a b : List (List ℕ)) → pointwise (pointwise nat_eq) a b ≡ true → a ≡ b
 same-path [] [] is = refl
@@ -42,12 +37,14 @@ same-path (x ∷ a) (y ∷ b) is =
     let parts = both (pointwise nat_eq x y) (pointwise (pointwise nat_eq) a b) is in
     ap (λ first. first ∷ a) (same_text x y (sym parts.0)) ∙ ap (λ rest. y ∷ rest) (same-path a b parts.1)
 
--- the first bytes of a tree are bytes of it, and those of its rest are
-first-content : (path : List (List ℕ)) (bytes : List ℕ) (tree : List (List (List ℕ) × Option (List ℕ))) → is_content ((path, Some bytes) ∷ tree) bytes ≡ true
-first-content path bytes tree = or-first (pointwise nat_eq bytes bytes) (is_content tree bytes) (text-self bytes)
+-- the bytes, if there are any, are among these
+abbrev pub IsAmong : List (List ℕ) → Option (List ℕ) → Type 0
+IsAmong known None = Unit {0}
+IsAmong known (Some bytes) = Contains known bytes
 
-rest-content : (entry : List (List ℕ) × Option (List ℕ)) (tree : List (List (List ℕ) × Option (List ℕ))) (bytes : List ℕ) → is_content tree bytes ≡ true → is_content (entry ∷ tree) bytes ≡ true
-rest-content entry tree bytes is = or-true (is_bytes bytes entry.1) (is_content tree bytes) is
+-- those of one digest are the same
+abbrev pub AreApart : List (List ℕ) → Type 0
+AreApart known = (a b : List ℕ) → Contains known a → Contains known b → sha256 a ≡ sha256 b → a ≡ b
 
 -- the entries of a drive's tree, with the record of each
 abbrev pub Shows : List LiveItem → List (List (List ℕ) × LiveItem) → List (List (List ℕ) × Item)
@@ -56,39 +53,37 @@ Shows all placed = map (λ (entry : List (List ℕ) × LiveItem). (entry.0, reco
 abbrev pub bytes_of : List (List (List ℕ) × LiveItem) → List (List (List ℕ) × Option (List ℕ))
 bytes_of placed = map (λ (entry : List (List ℕ) × LiveItem). (entry.0, entry.1.bytes)) placed
 
-same_digest : (a b : Digest) → pointwise nat_eq a.0 b.0 ≡ true → a ≡ b
-same_digest a b same = ap (λ (bytes : List ℕ). record { 0 = bytes }) (same_text a.0 b.0 (sym same))
+same-node : (known : List (List ℕ)) (ours theirs : Option (List ℕ)) (number : ℕ) (all : List LiveItem) → AreApart known → IsAmong known ours → IsAmong known theirs
+    → is_same_node (node_of ours) (kind_at theirs number all) ≡ true → ours ≡ theirs
+same-node known None None number all apart first second is = refl
+same-node known None (Some y) number all apart first second is = absurd (cc is)
+same-node known (Some x) None number all apart first second is = absurd (cc is)
+same-node known (Some x) (Some y) number all apart first second is =
+    ap (λ bytes. Some bytes) (apart x y first second (same_text (sha256 x) (sha256 y) (sym is)))
 
-same-node : (ours theirs : Option (List ℕ)) (number : ℕ) (all : List LiveItem) → is_same_node (node_of ours) (kind_at theirs number all) ≡ true
-    → ((x y : List ℕ) → ours ≡ Some x → theirs ≡ Some y → digest_record x ≡ digest_record y → x ≡ y) → ours ≡ theirs
-same-node None None number all is told = refl
-same-node None (Some y) number all is told = absurd (cc is)
-same-node (Some x) None number all is told = absurd (cc is)
-same-node (Some x) (Some y) number all is told = ap (λ bytes. Some bytes) (told x y refl refl (same_digest (digest_record x) (digest_record y) is))
-
-content-at : (path : List (List ℕ)) (entry : Option (List ℕ)) (tree : List (List (List ℕ) × Option (List ℕ))) (x : List ℕ) → entry ≡ Some x → is_content ((path, entry) ∷ tree) x ≡ true
-content-at path entry tree x is = rw is (first-content path x tree)
-
-pub same-trees : (all : List LiveItem) (local : List (List (List ℕ) × Option (List ℕ))) (placed : List (List (List ℕ) × LiveItem)) → NoCollision local (bytes_of placed)
+pub same-trees : (known : List (List ℕ)) (all : List LiveItem) (local : List (List (List ℕ) × Option (List ℕ))) (placed : List (List (List ℕ) × LiveItem)) → AreApart known
+    → AllByRecursion (λ (entry : List (List ℕ) × Option (List ℕ)). IsAmong known entry.1) local
+    → AllByRecursion (λ (entry : List (List ℕ) × LiveItem). IsAmong known entry.1.bytes) placed
     → is_same (scanned local) (Shows all placed) ≡ true → local ≡ bytes_of placed
-same-trees all [] [] apart is = refl
-same-trees all [] (b ∷ placed) apart is = absurd (cc is)
-same-trees all (a ∷ local) [] apart is = absurd (cc is)
-same-trees all (a ∷ local) (b ∷ placed) apart is =
+same-trees known all [] [] apart ours theirs is = refl
+same-trees known all [] (b ∷ placed) apart ours theirs is = absurd (cc is)
+same-trees known all (a ∷ local) [] apart ours theirs is = absurd (cc is)
+same-trees known all (a ∷ local) (b ∷ placed) apart ours theirs is =
     let first = both (is_same_entry (a.0, node_of a.1) (b.0, record_of all b.1)) (is_same (scanned local) (Shows all placed)) is in
     let parts = both (pointwise (pointwise nat_eq) a.0 b.0) (is_same_node (node_of a.1) (record_of all b.1).kind) first.0 in
     let same_first : a ≡ (b.0, b.1.bytes) =
     ap (λ path. (path, a.1)) (same-path a.0 b.0 parts.0)
-    ∙ ap (λ entry. (b.0, entry)) (same-node a.1 b.1.bytes b.1.number all parts.1
-    (λ x y ours theirs digest. apart x y (content-at a.0 a.1 local x ours) (content-at b.0 b.1.bytes (bytes_of placed) y theirs) digest)) in
+    ∙ ap (λ entry. (b.0, entry)) (same-node known a.1 b.1.bytes b.1.number all apart ours.0 theirs.0 parts.1) in
     ap (λ entry. entry ∷ local) same_first
-    ∙ ap (λ rest. (b.0, b.1.bytes) ∷ rest)
-    (same-trees all local placed (λ x y ours theirs digest. apart x y (rest-content a local x ours) (rest-content (b.0, b.1.bytes) (bytes_of placed) y theirs) digest) first.1)
+    ∙ ap (λ rest. (b.0, b.1.bytes) ∷ rest) (same-trees known all local placed apart ours.1 theirs.1 first.1)
 
-pub same-as-drive : (local : List (List (List ℕ) × Option (List ℕ))) (held : Inventory) → IsItemMap held → NoCollision local (tree_of held)
-    → is_same (scanned local) (paths_of (records_of held)) ≡ true → local ≡ tree_of held
-same-as-drive local held sound apart is =
-    same-trees held.items local (in_order (placed_items held))
-    (λ x y ours theirs digest. apart x y ours (ap (λ tree. is_content tree y) (tree-of-placed held) ∙ theirs) digest)
-    (ap (λ remote. is_same (scanned local) remote) (sym (paths-of-placed held sound)) ∙ is)
-    ∙ sym (tree-of-placed held)
+node-self : (bytes : Option (List ℕ)) (number : ℕ) (all : List LiveItem) → is_same_node (node_of bytes) (kind_at bytes number all) ≡ true
+node-self None number all = refl
+node-self (Some bytes) number all = text-self (sha256 bytes)
+
+pub same-entries : (all : List LiveItem) (placed : List (List (List ℕ) × LiveItem)) → is_same (scanned (bytes_of placed)) (Shows all placed) ≡ true
+same-entries all [] = refl
+same-entries all (b ∷ placed) =
+    two (is_same_entry (b.0, node_of b.1.bytes) (b.0, record_of all b.1)) (is_same (scanned (bytes_of placed)) (Shows all placed))
+    (two (pointwise (pointwise nat_eq) b.0 b.0) (is_same_node (node_of b.1.bytes) (record_of all b.1).kind) (path-self b.0) (node-self b.1.bytes b.1.number all))
+    (same-entries all placed)

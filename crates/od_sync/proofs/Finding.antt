@@ -1,77 +1,94 @@
--- What a scan has found so far, over its calls of the folder.
-use Rattle.std.proofs.Common.{◌≡◌, ℕ, Bool, true, false, cond, List, [], ◌∷◌, ◌++◌, ◌-◌, take, Option, Some, None, refl, ap, sym, subst, ◌∙◌}
-use Rattle.std.specs.List.{AllByRecursion}
-use Rattle.gd_item.specs.declared.digest.Digest.{Digest}
-use Rattle.od_tree.specs.Listing.{entries_in}
-use Rattle.od_tree.specs.declared.entry.Entry.{Entry}
+-- What a scan has found so far, since it listed the root.
+use Rattle.std.proofs.Common.{◌≡◌, ℕ, false, List, [], ◌∷◌, ◌++◌, ◌-◌, take, Option, Some, refl, ap, subst, ◌∙◌, append_assoc}
 use Rattle.std.proofs.lemmas.List.{append-nil, map-append}
-use Rattle.od_tree.specs.Local.{local_of, is_folder_at}
+use Rattle.std.specs.List.{AllByRecursion, list_any}
+use Rattle.od_tree.specs.Calls.{edited}
+use Rattle.od_tree.specs.Listing.{entries_in}
+use Rattle.od_tree.specs.Local.{Local, local_of, empty_folder}
+use Rattle.od_tree.specs.Undisturbed.{NoUser}
+use Rattle.od_tree.specs.declared.edit.UserEdit.{UserEdit}
 use Rattle.od_tree.specs.declared.local.Spot.{Spot}
 use Rattle.od_tree.specs.declared.step.LocalStep.{LocalStep}
-use Rattle.od_sync.specs.Scans.{IsTree, Stands, Finds}
-use Rattle.od_sync.specs.Visits.{Sees, Visits, Turn, turns, pushed_if, listing_at, digest_at, found_at, found_file, found_folder}
+use Rattle.od_tree.specs.declared.step.LocalStep.TheVariants.{Op}
+use Rattle.od_tree.specs.declared.step.TreeOp.TheVariants as op
+use Rattle.od_sync.specs.Scans.{IsLook, is_root_listing, Finds}
+use Rattle.od_sync.specs.Visits.{Sees, Begins, Visits, Turn, turns, pushed}
 use Rattle.od_sync.specs.declared.scanning.Node.{Node}
 use Rattle.od_sync.specs.declared.waiting.Waiting.{Waiting}
-use Rattle.od_sync.proofs.Looking.{sees-so, sees-then}
+use Rattle.od_tree.proofs.Shaped.{folder_is_tree}
+use Rattle.od_sync.proofs.Looks.{looks-append, below-append, looks-keep, alone-first, alone-second}
 use Rattle.od_sync.proofs.Scanned.{Going, begins, goes-on, ends}
 
-abbrev AllStand : List Spot → List (List (List ℕ) × Node) → Type 0
-AllStand spots found = AllByRecursion (λ (entry : List (List ℕ) × Node). Stands spots entry.0 entry.1) found
+-- the root was listed, and then what is below it was looked at
+pub record FoundSoFar (found : List (List (List ℕ) × Node)) (stack : List Turn) (old : List LocalStep) (now : Option (List LocalStep)) : Type 0 where
+  pub edits : List UserEdit
+  pub rest : List LocalStep
+  pub grown : now ≡ Some (edited old edits ++ Op (op.List []) ∷ rest)
+  pub looks : AllByRecursion IsLook rest
+  pub once : list_any is_root_listing rest ≡ false
+  pub going : NoUser rest → Going (local_of (edited old edits)).spots found stack
 
-all-stand : (spots : List Spot) (found more : List (List (List ℕ) × Node)) → AllStand spots found → AllStand spots more → AllStand spots (found ++ more)
-all-stand spots [] more first second = second
-all-stand spots (entry ∷ found) more first second = (first.0, all-stand spots found more first.1 second)
+pub record FindsSoFar (found : List (List (List ℕ) × Node)) (stack : List Turn) (before now : Option (List LocalStep)) : Type 0 where
+  pub told : (old : List LocalStep) → before ≡ Some old → FoundSoFar found stack old now
 
-folder-stands : (spots : List Spot) (at : List (List ℕ)) (b : Bool) (entries : List Entry) → is_folder_at at spots ≡ b → AllStand spots (found_folder at (cond b (Some entries) None))
-folder-stands spots at true entries is = (is, tt)
-folder-stands spots at false entries is = tt
-
-file-stands : (spots : List Spot) (at : List (List ℕ)) (digest : Option Digest) → digest_at at spots ≡ digest → AllStand spots (found_file at digest)
-file-stands spots at None is = tt
-file-stands spots at (Some digest) is = (is, tt)
-
-visit-stands : (spots : List Spot) (at : List (List ℕ)) (folder : Bool) → AllStand spots (found_at at folder spots)
-visit-stands spots at true = folder-stands spots at (is_folder_at at spots) (entries_in at spots) refl
-visit-stands spots at false = file-stands spots at (digest_at at spots) refl
-
-pub record Goes (found : List (List (List ℕ) × Node)) (stack : List Turn) (spots : List Spot) : Type 0 where
-  pub stands : AllStand spots found
-  pub going : IsTree spots → Going spots found stack
-
-pub goes-first : (stack stack_old : List Turn) (before after : Option (List LocalStep)) → stack_old ≡ []
-    → Sees (λ spots. stack ≡ pushed_if [] (listing_at [] spots) stack_old) before after → Sees (Goes [] stack) before after
-goes-first stack stack_old before after empty sees =
-    sees-so (λ spots. stack ≡ pushed_if [] (listing_at [] spots) stack_old) (Goes [] stack) before after
-    (λ spots is. record {
-      stands = tt;
-      going = λ tree. begins spots tree stack (is ∙ ap (λ (s : List Turn). pushed_if [] (listing_at [] spots) s) empty);
-    }) sees
-
-pub goes-next : (next : Waiting) (found now : List (List (List ℕ) × Node)) (whole popped after_visit : List Waiting) (before middle after : Option (List LocalStep)) → whole ≡ popped ++ next ∷ []
-    → Sees (Goes found (turns whole)) before middle → Sees (Visits next.path next.folder found now (turns popped) (turns after_visit)) middle after → Sees (Goes now (turns after_visit)) before after
-goes-next next found now whole popped after_visit before middle after is goes visits =
-    sees-then (Goes found (turns whole)) (Visits next.path next.folder found now (turns popped) (turns after_visit)) (Goes now (turns after_visit)) before middle after
-    (λ spots so_far step. record {
-      stands = subst (λ (f : List (List (List ℕ) × Node)). AllStand spots f) (sym step.found_is)
-          (all-stand spots found (found_at next.path next.folder spots) so_far.stands (visit-stands spots next.path next.folder));
-      going = λ tree. goes-on spots tree next.path next.folder found now (turns popped) (turns after_visit)
-          (subst (λ (stack : List Turn). Going spots found stack) (ap turns is ∙ map-append (λ (w : Waiting). (w.path, w.folder)) popped (next ∷ [])) (so_far.going tree)) step;
-    })
-    goes visits
-
-pub goes-last : (found result : List (List (List ℕ) × Node)) (waiting : List Waiting) (before after : Option (List LocalStep)) → waiting ≡ [] → result ≡ found
-    → Sees (Goes found (turns waiting)) before after → Finds before after result
-goes-last found result waiting before after empty same goes = record {
+pub finds-first : (stack stack_old : List Turn) (before after : Option (List LocalStep)) → stack_old ≡ [] → Begins stack_old stack before after → FindsSoFar [] stack before after
+finds-first stack stack_old before after empty first = record {
   told = λ old told.
-      let seen = goes.told old told in (
-        seen.part,
-        seen.grown,
-        λ alone. record {
-          stands = subst (λ (f : List (List (List ℕ) × Node)). AllStand (local_of old).spots f) (sym same) (seen.fact alone).stands;
-          all = λ tree. same ∙ ends (local_of old).spots tree found
-              (subst (λ (w : List Waiting). Going (local_of old).spots found (turns w)) empty ((seen.fact alone).going tree));
-        },
-      );
+      let begun = first.told old told in
+      let spots : List Spot = (local_of (edited old begun.edits)).spots in
+      record {
+        edits = begun.edits;
+        rest = [];
+        grown = begun.grown;
+        looks = tt;
+        once = refl;
+        going = λ alone. begins spots (folder_is_tree (edited old begun.edits)) stack
+            (begun.waiting_is ∙ ap (λ (s : List Turn). pushed [] (entries_in [] spots) s) empty);
+      };
+}
+
+-- one more visit
+found-next : (next : Waiting) (found found_now : List (List (List ℕ) × Node)) (stack stack_now : List Turn) (old : List LocalStep) (middle after : Option (List LocalStep))
+    → FoundSoFar found (stack ++ (next.path, next.folder) ∷ []) old middle → Sees (Visits next.path next.folder found found_now stack stack_now) middle after → FoundSoFar found_now stack_now old after
+found-next next found found_now stack stack_now old middle after so_far visits =
+    let first : List LocalStep = edited old so_far.edits in
+    let listed : List LocalStep = Op (op.List []) ∷ so_far.rest in
+    let seen = visits.told (first ++ listed) so_far.grown in
+    record {
+      edits = so_far.edits;
+      rest = so_far.rest ++ seen.part;
+      grown = seen.grown ∙ ap (λ log. Some log) (append_assoc first listed seen.part);
+      looks = looks-append so_far.rest seen.part so_far.looks seen.looks;
+      once = below-append so_far.rest seen.part so_far.once seen.below;
+      going = λ alone.
+          let before = alone-first so_far.rest seen.part alone in
+          goes-on (local_of first).spots (folder_is_tree first) next.path next.folder found found_now stack stack_now (so_far.going before)
+          (subst (λ (local : Local). Visits next.path next.folder found found_now stack stack_now local.spots) (looks-keep 0 empty_folder first listed (tt, so_far.looks) (tt, before))
+          (seen.fact (alone-second so_far.rest seen.part alone)));
+    }
+
+pub finds-next : (next : Waiting) (found found_now : List (List (List ℕ) × Node)) (whole popped after_visit : List Waiting) (before middle after : Option (List LocalStep)) → whole ≡ popped ++ next ∷ []
+    → FindsSoFar found (turns whole) before middle → Sees (Visits next.path next.folder found found_now (turns popped) (turns after_visit)) middle after → FindsSoFar found_now (turns after_visit) before after
+finds-next next found found_now whole popped after_visit before middle after is finds visits = record {
+  told = λ old told.
+      found-next next found found_now (turns popped) (turns after_visit) old middle after
+      (subst (λ (stack : List Turn). FoundSoFar found stack old middle) (ap turns is ∙ map-append (λ (w : Waiting). (w.path, w.folder)) popped (next ∷ [])) (finds.told old told)) visits;
+}
+
+pub finds-last : (found result : List (List (List ℕ) × Node)) (waiting : List Waiting) (before after : Option (List LocalStep)) → waiting ≡ [] → result ≡ found
+    → FindsSoFar found (turns waiting) before after → Finds before after result
+finds-last found result waiting before after empty same finds = record {
+  told = λ old told.
+      let so_far = finds.told old told in
+      let spots : List Spot = (local_of (edited old so_far.edits)).spots in
+      record {
+        edits = so_far.edits;
+        rest = so_far.rest;
+        grown = so_far.grown;
+        looks = so_far.looks;
+        once = so_far.once;
+        all = λ alone. same ∙ ends spots (folder_is_tree (edited old so_far.edits)) found (subst (λ (w : List Waiting). Going spots found (turns w)) empty (so_far.going alone));
+      };
 }
 
 pub none-left : (waiting popped : List Waiting) (size : ℕ) → waiting ≡ popped ++ [] → popped ≡ take (size - 1) waiting → size ≡ 0 → waiting ≡ []

@@ -1,14 +1,11 @@
 -- A first pull of a drive.
-use Rattle.std.proofs.Common.{◌≡◌, ℕ, ◌+◌, ◌-◌, ◌≤◌, Bool, true, false, ◌&&◌, cond, List, [], ◌∷◌, ◌++◌, length, slice_index, nat_lt, Option, Some, None, refl, ap, sym, ◌∙◌, arith}
+use Rattle.std.proofs.Common.{◌≡◌, ℕ, ◌+◌, ◌≤◌, Bool, true, false, ◌&&◌, List, [], ◌∷◌, ◌++◌, nat_lt, Option, Some, None, refl, ap, ◌∙◌, arith}
 use Rattle.std.proofs.lemmas.Bool.Decides.{nat_tests}
-use Rattle.std.proofs.lemmas.List.{take_all}
-use Rattle.std.proofs.lemmas.Map.Entries.{length-values_of}
 use Rattle.std.specs.List.{AllByRecursion}
-use Rattle.std.specs.Map.{values_of, keys_of}
+use Rattle.std.specs.Map.{values_of}
 use Rattle.gd_item.specs.Answers.{answer_of}
 use Rattle.gd_item.specs.Inventory.{Effect, MadeFolder, PutNew, PutOver, Moved, Removed, Inventory, new_drive, inventory, after, after_all, tombstone_of, live_at}
-use Rattle.gd_item.specs.Pages.{page_past, page_link}
-use Rattle.gd_item.specs.Records.{feed, removals, first_of}
+use Rattle.gd_item.specs.Records.{removals, records_of}
 use Rattle.gd_item.specs.Steps.{state_of, held_by, number_of}
 use Rattle.gd_item.specs.declared.live.LiveItem.{LiveItem}
 use Rattle.gd_item.specs.declared.live.Tombstone.{Tombstone}
@@ -19,13 +16,12 @@ use Rattle.gd_item.specs.declared.reply.PageLink.TheVariants as link
 use Rattle.gd_item.specs.declared.reply.Reply.TheVariants as reply
 use Rattle.gd_item.specs.declared.request.Request.TheVariants.{Delta}
 use Rattle.gd_item.specs.declared.step.Step.{Step}
-use Rattle.gd_item.specs.Sound.{IsItemMap}
-use Rattle.gd_item.specs.Records.{records_of}
-use Rattle.od_mirror.specs.Pulled.{nodes, IsLeastBad, begun, after_page, after_link, with_records}
-use Rattle.od_transfer.specs.Asking.{is_last_link}
+use Rattle.gd_store.proofs.Logs.{sound-log}
+use Rattle.od_mirror.specs.Pulled.{begun, after_page, after_link, with_records}
 use Rattle.od_mirror.proofs.Feed.{feed-from-start}
-use Rattle.od_mirror.proofs.Standing.{records-fit}
+use Rattle.od_transfer.specs.Asking.{is_last_link}
 use Rattle.od_sync.specs.Pulls.{token_then}
+use Rattle.od_sync.proofs.KeptPullPage.{page-of-none, last-items, last-link}
 
 -- ---- no removal is later than the drive's number
 abbrev AllPast : ℕ → List Tombstone → Type 0
@@ -70,51 +66,19 @@ no-removals n (stone ∷ stones) past = rw (and-false (nat_lt 0 stone.change) (n
 pub none-removed : (effects : List Effect) → removals 0 (inventory effects).number (inventory effects).removed ≡ []
 none-removed effects = no-removals (inventory effects).number (inventory effects).removed (past-all new_drive effects tt)
 
--- ---- a last page has all that changed
-last-of-all : (b : Bool) (epoch start number n : ℕ) → is_last_link (page_link epoch start number (cond b (Some n) None)) ≡ true → b ≡ false
-last-of-all true epoch start number n is = absurd (cc is)
-last-of-all false epoch start number n is = refl
-
-first-of-all : (size : ℕ) (changes : List (ℕ × Item)) → nat_lt size (length changes) ≡ false → first_of size changes ≡ values_of changes
-first-of-all size changes is =
-    let long : length changes ≤ size = grind (arith, nat_tests) in
-    take_all size (values_of changes) (omega (arith, long, length-values_of changes))
-
-abbrev everything : List Step → List (ℕ × Item)
-everything log = feed (held_by log) 0 (number_of log)
-
-more-follow : (log : List Step) (size : ℕ) → is_last_link (page_past (state_of log) 0 (number_of log) size).link ≡ true → nat_lt size (length (everything log)) ≡ false
-more-follow log size is =
-    last-of-all (nat_lt size (length (everything log))) (state_of log).epoch (number_of log) (number_of log) (slice_index (keys_of (everything log)) (size - 1)) is
-
-pub page-items : (log : List Step) (size : ℕ) (page : Page) → reply.Page page ≡ answer_of log size (Delta None) → is_last_link page.link ≡ true → page.items ≡ values_of (everything log)
-page-items log size page is last =
-    let same : page ≡ page_past (state_of log) 0 (number_of log) size = cc is in
-    ap (λ (p : Page). p.items) same
-    ∙ first-of-all size (everything log) (more-follow log size (ap (λ (p : Page). is_last_link p.link) (sym same) ∙ last))
-
-pub page-token : (log : List Step) (size : ℕ) (page : Page) → reply.Page page ≡ answer_of log size (Delta None) → is_last_link page.link ≡ true → page.link ≡ link.Delta (token_then log)
-page-token log size page is last =
-    let same : page ≡ page_past (state_of log) 0 (number_of log) size = cc is in
-    ap (λ (p : Page). p.link) same
-    ∙ ap (λ b. page_link (state_of log).epoch (number_of log) (number_of log) (cond b (Some (slice_index (keys_of (everything log)) (size - 1))) None))
-    (more-follow log size (ap (λ (p : Page). is_last_link p.link) (sym same) ∙ last))
-
 -- ---- what is pulled then
-link-items : (items : List (ℕ × Item)) (l : PageLink) → (after_link items l).items ≡ items
+pub link-items : (items : List (ℕ × Item)) (l : PageLink) → (after_link items l).items ≡ items
 link-items items (link.Next token) = refl
 link-items items (link.Delta token) = refl
 
-pub first-items : (log : List Step) (size : ℕ) (page : Page) → reply.Page page ≡ answer_of log size (Delta None) → is_last_link page.link ≡ true → IsItemMap (held_by log)
+pub first-items : (log : List Step) (size : ℕ) (page : Page) → reply.Page page ≡ answer_of log size (Delta None) → is_last_link page.link ≡ true
     → values_of (after_page (begun [] None) page).items ≡ records_of (held_by log)
-first-items log size page is last sound =
+first-items log size page is last =
     ap values_of (link-items (with_records [] page.items) page.link)
-    ∙ ap (λ records. values_of (with_records [] records)) (page-items log size page is last)
-    ∙ feed-from-start (held_by log) sound (number_of log) (none-removed (state_of log).effects)
+    ∙ ap (λ records. values_of (with_records [] records)) (last-items log size 0 (number_of log) page (page-of-none log size page is) last)
+    ∙ feed-from-start (held_by log) (sound-log log) (number_of log) (none-removed (state_of log).effects)
 
 pub first-token : (log : List Step) (size : ℕ) (page : Page) → reply.Page page ≡ answer_of log size (Delta None) → is_last_link page.link ≡ true
     → (after_page (begun [] None) page).last ≡ Some (token_then log)
-first-token log size page is last = ap (λ l. (after_link (with_records [] page.items) l).last) (page-token log size page is last)
-
-pub never-bad : (log : List Step) (number : ℕ) → IsItemMap (held_by log) → IsLeastBad (nodes (records_of (held_by log))) number → ⊥
-never-bad log number sound bad = absurd (cc (bad.bad, records-fit (held_by log) sound number))
+first-token log size page is last =
+    ap (λ l. (after_link (with_records [] page.items) l).last) (last-link log size 0 (number_of log) page (page-of-none log size page is) last)

@@ -11,11 +11,11 @@ use Rattle.gd_item.specs.Trees.{in_order}
 use Rattle.od_mirror.proofs.Mapped.{mapped, in-order-mapped}
 use Rattle.od_tree.specs.Listing.{is_right_below, entries_in, entry_of}
 use Rattle.od_tree.specs.Local.{is_path, is_from, spot_at, file_at, file_in, is_folder_spot, is_folder_at, bytes_in, tree_of_spots}
+use Rattle.od_tree.specs.Shape.{IsTree}
 use Rattle.od_tree.specs.declared.entry.Entry.{Entry}
 use Rattle.od_tree.specs.declared.local.LocalFile.{LocalFile}
 use Rattle.od_tree.specs.declared.local.Spot.{Spot}
 use Rattle.od_sync.specs.Comparing.{node_of, scanned}
-use Rattle.od_sync.specs.Scans.{IsTree}
 use Rattle.od_sync.specs.Visits.{Turn, Visits, listing_at, pushed, pushed_if, found_file, found_folder}
 use Rattle.od_sync.specs.declared.scanning.Node.{Node}
 use Rattle.od_sync.specs.declared.scanning.Node.TheVariants.{Folder, File}

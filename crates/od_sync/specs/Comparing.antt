@@ -1,11 +1,13 @@
 -- When the local folder is what the drive shows: the same paths, with a folder or bytes of the same digest at each.
-use Rattle.std.specs.Prelude.{◌≡◌, ℕ, Bool, true, false, ◌&&◌, List, [], ◌∷◌, map, nat_eq, Option, Some, None}
-use Rattle.std.specs.List.{list_any}
+use Rattle.std.specs.Prelude.{ℕ, Bool, true, false, ◌&&◌, List, [], ◌∷◌, map, nat_eq, Option, Some, None}
 use Rattle.std.specs.Cmp.Lexicographic.{pointwise}
 use Rattle.gd_item.specs.Records.{digest_record}
 use Rattle.gd_item.specs.declared.item.Item.{Item}
 use Rattle.gd_item.specs.declared.item.Kind.{Kind}
 use Rattle.gd_item.specs.declared.item.Kind.TheVariants as kind
+use Rattle.gd_item.specs.declared.live.Version.{Version}
+use Rattle.od_keeper.specs.Sound.{IsAccepted}
+use Rattle.od_keeper.specs.declared.image.Agreed.TheVariants as agreed
 use Rattle.od_sync.specs.declared.scanning.Node.{Node}
 use Rattle.od_sync.specs.declared.scanning.Node.TheVariants.{Folder, File}
 
@@ -35,14 +37,8 @@ node_of (Some bytes) = File (digest_record bytes)
 abbrev pub scanned : List (List (List ℕ) × Option (List ℕ)) → List (List (List ℕ) × Node)
 scanned tree = map (λ (entry : List (List ℕ) × Option (List ℕ)). (entry.0, node_of entry.1)) tree
 
--- whether bytes are those of a file of a tree
-abbrev pub is_bytes : List ℕ → Option (List ℕ) → Bool
-is_bytes bytes None = false
-is_bytes bytes (Some other) = pointwise nat_eq other bytes
-
-abbrev pub is_content : List (List (List ℕ) × Option (List ℕ)) → List ℕ → Bool
-is_content tree bytes = list_any (λ (entry : List (List ℕ) × Option (List ℕ)). is_bytes bytes entry.1) tree
-
--- no bytes of the one tree have the digest of other bytes of the other tree
-abbrev pub NoCollision : List (List (List ℕ) × Option (List ℕ)) → List (List (List ℕ) × Option (List ℕ)) → Type 0
-NoCollision a b = (x y : List ℕ) → is_content a x ≡ true → is_content b y ≡ true → digest_record x ≡ digest_record y → x ≡ y
+-- what the drive shows is a folder, or the digest of bytes that it accepted
+abbrev pub IsKindAccepted : List Version → Kind → Type 0
+IsKindAccepted versions (kind.Folder child_count) = Unit {0}
+IsKindAccepted versions (kind.File digest) = IsAccepted versions (agreed.File digest)
+IsKindAccepted versions kind.Deleted = Unit {0}

@@ -3,3 +3,16 @@ pub mod Pulls
 pub mod Scans
 pub mod Comparing
 pub mod Visits
+pub mod Ends
+pub mod PullChanges
+pub mod Agreeing
+pub mod Planning
+pub mod Doing
+pub mod Making
+pub mod Batches
+pub mod Syncing
+pub mod Syncs
+pub mod FreshPlans
+pub mod Serving
+pub mod Receiving
+pub mod Rounds

@@ -1,5 +1,6 @@
 ghost use Rattle.std.specs.Prelude.{◌≡◌, ◌∷◌, [], true, Some, None, IfOk, IfErr};
 ghost use Rattle.od_transfer.specs.Asking.{Grows, is_last_link, may_answer_delta};
+ghost use Rattle.od_transfer.specs.Undisturbed.{Undisturbed, MayBeServed};
 ghost use Rattle.od_sync.specs.Deltas.{DeltaAsks, IsAskedWith, HasDeltaCause, SendsOnce, HasSendCause, is_delta, page_in};
 
 use gd_item::{Page, Reply, Request};
@@ -51,6 +52,8 @@ fn send_delta<R: Remote>(
     requires { is_delta request.now ≡ true }
     ensures log { SendsOnce request.now (R.log remote.old) (R.log remote.new) result }
     ensures cause { HasSendCause (R.faults remote.old) (R.faults remote.new) (R.answers remote.old) (R.answers remote.new) (R.in_row remote.old) (R.in_row remote.new) result }
+    ensures undisturbed { Undisturbed (R.undisturbed remote.old) (R.undisturbed remote.new) (R.log remote.old) (R.log remote.new) }
+    ensures no_faults { R.undisturbed remote.old ≡ true → MayBeServed request.now (R.log remote.old) → R.faults remote.new ≡ R.faults remote.old }
 {
     match remote.ask(alloc, request) {
         Ok(reply) => match page_in(reply) {
@@ -70,6 +73,8 @@ fn send_again<R: Remote>(
     requires { is_delta request.now ≡ true }
     ensures log { DeltaAsks request.now (R.log remote.old) (R.log remote.new) result }
     ensures cause { HasDeltaCause (R.faults remote.old) (R.faults remote.new) (R.answers remote.old) (R.answers remote.new) (R.in_row remote.new) result }
+    ensures undisturbed { Undisturbed (R.undisturbed remote.old) (R.undisturbed remote.new) (R.log remote.old) (R.log remote.new) }
+    ensures no_faults { R.undisturbed remote.old ≡ true → MayBeServed request.now (R.log remote.old) → R.faults remote.new ≡ R.faults remote.old }
 {
     let mut replies: u64 = 0;
     for _sent in 0u64..3 {
@@ -96,6 +101,8 @@ pub fn ask_delta<R: Remote>(
     ensures log { DeltaAsks (Request.Delta token) (R.log remote.old) (R.log remote.new) result }
     ensures grows { Grows (IsAskedWith token) (R.log remote.old) (R.log remote.new) }
     ensures cause { HasDeltaCause (R.faults remote.old) (R.faults remote.new) (R.answers remote.old) (R.answers remote.new) (R.in_row remote.new) result }
+    ensures undisturbed { Undisturbed (R.undisturbed remote.old) (R.undisturbed remote.new) (R.log remote.old) (R.log remote.new) }
+    ensures no_faults { R.undisturbed remote.old ≡ true → MayBeServed (Request.Delta token) (R.log remote.old) → R.faults remote.new ≡ R.faults remote.old }
 {
     let request = Request::Delta { token };
     send_again(remote, alloc, &request)

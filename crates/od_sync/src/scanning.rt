@@ -1,7 +1,9 @@
 ghost use Rattle.std.specs.Prelude.{◌≡◌, ◌<◌, ◌++◌, ◌∷◌, [], true, false, length, IfOk, OnOk};
 ghost use Rattle.std.specs.List.{All};
+ghost use Rattle.od_tree.specs.Undisturbed.{Undisturbed};
+ghost use Rattle.od_tree.specs.declared.step.TreeOp.TheVariants as op;
 ghost use Rattle.od_sync.specs.Scans.{Looks, Finds, HasScanCause};
-ghost use Rattle.od_sync.specs.Visits.{Sees, Visits, digest_at, listing_at, found_file, turns, pushed, pushed_if};
+ghost use Rattle.od_sync.specs.Visits.{Shows, Sees, Visits, Begins, digest_at, listing_at, found_file, turns, pushed};
 
 use crate::waiting::Waiting;
 use gd_item::{Digest, digest_of};
@@ -71,7 +73,8 @@ fn look_at_file<T: Tree>(
     requires { 0 < length at.now }
     ensures log { Looks (T.log tree.old) (T.log tree.new) }
     ensures cause { HasScanCause (T.faults tree.old) (T.faults tree.new) result }
-    ensures found { IfOk result (λ digest. Sees (λ spots. digest ≡ digest_at at.now spots) (T.log tree.old) (T.log tree.new)) }
+    ensures undisturbed { Undisturbed (T.undisturbed tree.old) (T.undisturbed tree.new) (T.faults tree.old) (T.faults tree.new) (T.log tree.old) (T.log tree.new) }
+    ensures found { IfOk result (λ digest. Shows (op.Read at.now) (digest_at at.now) digest (T.log tree.old) (T.log tree.new)) }
 {
     match tree.read(alloc, at) {
         Ok(bytes) => Ok(Some(digest_of(bytes.as_slice()))),
@@ -91,7 +94,8 @@ fn look_at_folder<T: Tree>(
 ) -> Result<Option<List<Entry>>, ScanFault>
     ensures log { Looks (T.log tree.old) (T.log tree.new) }
     ensures cause { HasScanCause (T.faults tree.old) (T.faults tree.new) result }
-    ensures found { IfOk result (λ entries. Sees (λ spots. entries ≡ listing_at at.now spots) (T.log tree.old) (T.log tree.new)) }
+    ensures undisturbed { Undisturbed (T.undisturbed tree.old) (T.undisturbed tree.new) (T.faults tree.old) (T.faults tree.new) (T.log tree.old) (T.log tree.new) }
+    ensures found { IfOk result (λ entries. Shows (op.List at.now) (listing_at at.now) entries (T.log tree.old) (T.log tree.new)) }
 {
     match tree.list(alloc, at) {
         Ok(entries) => Ok(Some(entries)),
@@ -145,6 +149,7 @@ fn visit_file<T: Tree>(
     requires { 0 < length at }
     ensures log { Looks (T.log tree.old) (T.log tree.new) }
     ensures cause { HasScanCause (T.faults tree.old) (T.faults tree.new) result }
+    ensures undisturbed { Undisturbed (T.undisturbed tree.old) (T.undisturbed tree.new) (T.faults tree.old) (T.faults tree.new) (T.log tree.old) (T.log tree.new) }
     ensures found { OnOk result (Sees (λ spots. found.new.items ≡ found.old.items ++ found_file at (digest_at at spots)) (T.log tree.old) (T.log tree.new)) }
 {
     let digest = look_at_file(tree, alloc, &at)?;
@@ -165,8 +170,10 @@ fn visit_folder<T: Tree>(
     waiting: &mut Vec<Waiting>,
     found: &mut Vec<(Path, Node)>,
 ) -> Result<(), ScanFault>
+    requires { 0 < length at }
     ensures log { Looks (T.log tree.old) (T.log tree.new) }
     ensures cause { HasScanCause (T.faults tree.old) (T.faults tree.new) result }
+    ensures undisturbed { Undisturbed (T.undisturbed tree.old) (T.undisturbed tree.new) (T.faults tree.old) (T.faults tree.new) (T.log tree.old) (T.log tree.new) }
     ensures found { OnOk result (Sees (Visits at true found.old.items found.new.items (turns waiting.old.items) (turns waiting.new.items)) (T.log tree.old) (T.log tree.new)) }
 {
     let entries = look_at_folder(tree, alloc, &at)?;
@@ -189,6 +196,7 @@ fn visit<T: Tree>(
 ) -> Result<(), ScanFault>
     ensures log { Looks (T.log tree.old) (T.log tree.new) }
     ensures cause { HasScanCause (T.faults tree.old) (T.faults tree.new) result }
+    ensures undisturbed { Undisturbed (T.undisturbed tree.old) (T.undisturbed tree.new) (T.faults tree.old) (T.faults tree.new) (T.log tree.old) (T.log tree.new) }
     ensures found { OnOk result (Sees (Visits next.path next.folder found.old.items found.new.items (turns waiting.old.items) (turns waiting.new.items)) (T.log tree.old) (T.log tree.new)) }
 {
     let Waiting { path, folder } = next;
@@ -203,7 +211,8 @@ fn visit<T: Tree>(
 fn begin<T: Tree>(tree: &mut T, alloc: Global, waiting: &mut Vec<Waiting>) -> Result<(), ScanFault>
     ensures log { Looks (T.log tree.old) (T.log tree.new) }
     ensures cause { HasScanCause (T.faults tree.old) (T.faults tree.new) result }
-    ensures found { OnOk result (Sees (λ spots. turns waiting.new.items ≡ pushed_if [] (listing_at [] spots) (turns waiting.old.items)) (T.log tree.old) (T.log tree.new)) }
+    ensures undisturbed { Undisturbed (T.undisturbed tree.old) (T.undisturbed tree.new) (T.faults tree.old) (T.faults tree.new) (T.log tree.old) (T.log tree.new) }
+    ensures found { OnOk result (Begins (turns waiting.old.items) (turns waiting.new.items) (T.log tree.old) (T.log tree.new)) }
 {
     let root = Path::root(alloc);
     let entries = look_at_folder(tree, alloc, &root)?;
@@ -220,6 +229,7 @@ fn begin<T: Tree>(tree: &mut T, alloc: Global, waiting: &mut Vec<Waiting>) -> Re
 pub fn scan<T: Tree>(tree: &mut T, alloc: Global) -> Result<List<(Path, Node)>, ScanFault>
     ensures log { Looks (T.log tree.old) (T.log tree.new) }
     ensures cause { HasScanCause (T.faults tree.old) (T.faults tree.new) result }
+    ensures undisturbed { Undisturbed (T.undisturbed tree.old) (T.undisturbed tree.new) (T.faults tree.old) (T.faults tree.new) (T.log tree.old) (T.log tree.new) }
     ensures found { IfOk result (λ found. Finds (T.log tree.old) (T.log tree.new) found) }
 {
     let mut found = Vec::new(alloc);

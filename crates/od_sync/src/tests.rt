@@ -2,9 +2,10 @@ ghost use Rattle.std.specs.Prelude.{◌≡◌, ◌<◌, true, length, IfOk};
 ghost use Rattle.od_transfer.specs.Asking.{is_last_link, may_answer};
 
 use super::*;
-use gd_item::{Item, ItemId, Kind, Page, PageLink, Reply, Request, Tag};
+use gd_item::{Item, ItemId, Kind, Page, PageLink, Reply, Request, Tag, digest_of};
 use gd_names::{Bytes, List, NoMemory, Path, Text};
-use od_transfer::{AskFault, Remote};
+use od_keeper::{Agreed, Keeper, MemoryKeeper};
+use od_transfer::{AskFault, Carrier, Job, Outcome, Remote, carry_each};
 use od_tree::{MemoryTree, Tree};
 use std::alloc::Global;
 use std::test::Fail;
@@ -92,7 +93,7 @@ fn reply_to(alloc: Global, request: &Request, wanting: bool) -> Result<Reply, No
 }
 
 impl Remote for Empty {
-    ghost use Rattle.std.specs.Prelude.{None};
+    ghost use Rattle.std.specs.Prelude.{None, false};
 
     ghost log = { λ r. None };
 
@@ -101,6 +102,8 @@ impl Remote for Empty {
     ghost answers = { λ r. r.answers };
 
     ghost in_row = { λ r. 0 };
+
+    ghost undisturbed = { λ r. false };
 
     fn ask(&mut self, alloc: Global, request: &Request) -> Result<Reply, AskFault> {
         match reply_to(alloc, request, self.wanting > 0) {
@@ -147,5 +150,132 @@ fn asked(rt: HostRuntime) -> Result<(), Fail> {
     };
     let page = ask_delta(&mut drive, alloc, None)?;
     assert_eq!(rt; page.items.as_slice().len(), 1);
+    Ok(())
+}
+
+/// A drive with one file `a`, of which nothing is told.
+#[derive(Debug, Drop)]
+struct OneFile {
+    answers: u64,
+}
+
+fn file(alloc: Global) -> Result<Item, NoMemory> {
+    Ok(Item {
+        id: ItemId(2),
+        parent: Some(ItemId(1)),
+        parent_path: None,
+        name: Text::from_str(alloc, "a")?,
+        size: 3,
+        etag: Tag(Text::from_str(alloc, "e2")?),
+        ctag: Some(Tag(Text::from_str(alloc, "c2")?)),
+        kind: Kind::File {
+            digest: digest_of(b"abc"),
+        },
+    })
+}
+
+fn file_page(alloc: Global) -> Result<Page, NoMemory>
+    ensures { IfOk result (λ page. is_last_link page.link ≡ true) }
+{
+    let mut items = List::new(alloc);
+    items.push(root(alloc)?)?;
+    items.push(file(alloc)?)?;
+    let link = PageLink::Delta(Text::from_str(alloc, "t1.2.2")?);
+    Ok(Page { items, link })
+}
+
+fn file_reply(alloc: Global, request: &Request) -> Result<Reply, NoMemory>
+    ensures { IfOk result (λ reply. may_answer request.now reply ≡ true) }
+{
+    match request {
+        Request::Delta { .. } => Ok(Reply::Page(file_page(alloc)?)),
+        Request::Content { .. } => Ok(Reply::Found {
+            id: ItemId(2),
+            version: 2,
+        }),
+        Request::Download { .. } => Ok(Reply::Content(Bytes::from_slice(alloc, b"abc")?)),
+        _ => Ok(Reply::Done),
+    }
+}
+
+impl Remote for OneFile {
+    ghost use Rattle.std.specs.Prelude.{None, false};
+
+    ghost log = { λ r. None };
+
+    ghost faults = { λ r. 0 };
+
+    ghost answers = { λ r. r.answers };
+
+    ghost in_row = { λ r. 0 };
+
+    ghost undisturbed = { λ r. false };
+
+    fn ask(&mut self, alloc: Global, request: &Request) -> Result<Reply, AskFault> {
+        match file_reply(alloc, request) {
+            Ok(reply) => {
+                self.answers = self.answers.saturating_add(1);
+                Ok(reply)
+            }
+            Err(NoMemory) => Err(AskFault::Memory),
+        }
+    }
+}
+
+impl Carrier for OneFile {
+    fn carry(&mut self, alloc: Global, jobs: &List<Job>) -> Result<List<Outcome>, NoMemory> {
+        carry_each(self, alloc, jobs)
+    }
+}
+
+/// A look at an empty folder and a drive with a file agrees on nothing, the plan is to fetch it, and once that is done there is
+/// a row for it.
+#[test]
+fn looked(rt: HostRuntime) -> Result<(), Fail> {
+    let alloc = rt.alloc();
+    let mut drive = OneFile { answers: 0 };
+    let mut tree = MemoryTree::new(alloc, List::new(alloc), List::new(alloc));
+    let mut keeper = MemoryKeeper::new(alloc, List::new(alloc));
+    let image = keeper.load(alloc)?;
+    let sides = look(alloc, &mut drive, &mut tree, &mut keeper, image)?;
+    assert_eq!(rt; sides.image.rows.as_slice().len(), 0);
+    assert_eq!(rt; sides.local.as_slice().len(), 0);
+    assert_eq!(rt; sides.remote.as_slice().len(), 1);
+    let plan = make_plan(alloc, &[], &[], sides.remote.as_slice())?;
+    assert_eq!(rt; plan.folders.as_slice().len(), 0);
+    assert_eq!(rt; plan.fetches.as_slice().len(), 1);
+    Ok(())
+}
+
+/// A sync fetches the file of a drive, and keeps that both sides agree on it.
+#[test]
+fn synced(rt: HostRuntime) -> Result<(), Fail> {
+    let alloc = rt.alloc();
+    let mut drive = OneFile { answers: 0 };
+    let mut tree = MemoryTree::new(alloc, List::new(alloc), List::new(alloc));
+    let mut keeper = MemoryKeeper::new(alloc, List::new(alloc));
+    let end = sync_now(alloc, &mut drive, &mut tree, &mut keeper);
+    assert_eq!(rt; end, SyncEnd::Settled);
+    let bytes = tree.read(alloc, &at_root(alloc, "a")?)?;
+    assert_eq!(rt; bytes.as_slice(), b"abc".as_slice());
+    let mut image = keeper.load(alloc)?;
+    match image.rows.pop() {
+        Some(row) => assert_eq!(rt; row.what, Agreed::File(digest_of(b"abc"))),
+        None => assert_eq!(rt; true, false),
+    }
+    Ok(())
+}
+
+/// Where the folder cannot be reached, a sync says so.
+#[test]
+fn failed(rt: HostRuntime) -> Result<(), Fail> {
+    let alloc = rt.alloc();
+    let mut drive = OneFile { answers: 0 };
+    let mut failing = List::new(alloc);
+    failing.push((od_tree::TreeCall::Place, 1))?;
+    let mut tree = MemoryTree::new(alloc, List::new(alloc), failing);
+    let mut keeper = MemoryKeeper::new(alloc, List::new(alloc));
+    let end = sync_now(alloc, &mut drive, &mut tree, &mut keeper);
+    assert_eq!(rt; end, SyncEnd::TreeFault);
     Ok(())
 }

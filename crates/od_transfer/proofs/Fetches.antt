@@ -34,7 +34,7 @@ pub digest_of_reply : (digest : Digest) (content : Option (Result (List ℕ) Err
 digest_of_reply digest content outcome is = from_reply digest content outcome is
 
 -- the requests of a transfer
-also : (request : Request) → is_transfer request ≡ true → (sent : Request) (served heard : Bool) → IsUnheard request sent served heard → IsTransfer sent served heard
+pub also : (request : Request) → is_transfer request ≡ true → (sent : Request) (served heard : Bool) → IsUnheard request sent served heard → IsTransfer sent served heard
 also request transfer sent served heard such = ap (λ r. is_transfer r) such.0 ∙ transfer
 
 pub heard_transfer : (request : Request) (reply : Reply) (before after : Option (List Step)) → is_transfer request ≡ true → AsksAgain request before after (Ok reply) → Grows IsTransfer before after

@@ -1,4 +1,8 @@
+pub mod Alone
+pub mod Bounds
+pub mod Explaining
+pub mod Fetches
 pub mod Logs
 pub mod Repeats
-pub mod Fetches
+pub mod Undisturbing
 pub mod Zipped

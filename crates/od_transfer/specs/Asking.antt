@@ -73,27 +73,30 @@ pub record AsksAgain (request : Request) (before after : Option (List Step)) (re
   pub ok : IfOk result (λ reply. (old : List Step) → before ≡ Some old → Heard (IsUnheard request) request old after reply)
   pub err : OnErr result ((old : List Step) → before ≡ Some old → Grown (IsUnheard request) old after)
 
--- whether a page is the last one, and whether a status is that of a drive that lacks memory
+-- whether a page is the last one
 abbrev pub is_last_link : PageLink → Bool
 is_last_link (link.Next token) = false
 is_last_link (link.Delta token) = true
 
--- whether a reply is one to the request: a Delta has one last page, or the drive lacks memory
+-- whether a reply may come to a Delta: a last page, or that the drive lacks memory
 abbrev pub may_answer_delta : Reply → Bool
 may_answer_delta (reply.Page page) = is_last_link page.link
 may_answer_delta (reply.Refused status code) = nat_eq status 503
 may_answer_delta reply = false
 
+-- whether a reply may come to a Content: where the bytes are to be had, or a refusal
 abbrev pub may_answer_content : Reply → Bool
 may_answer_content (reply.Found id version) = true
 may_answer_content (reply.Refused status code) = true
 may_answer_content reply = false
 
+-- whether a reply may come to a Download: the bytes, or a refusal
 abbrev pub may_answer_download : Reply → Bool
 may_answer_download (reply.Content bytes) = true
 may_answer_download (reply.Refused status code) = true
 may_answer_download reply = false
 
+-- whether a reply may come to a request, of which one of another kind than these three may have any
 abbrev pub may_answer : Request → Reply → Bool
 may_answer (Content at) reply = may_answer_content reply
 may_answer (Download id version) reply = may_answer_download reply

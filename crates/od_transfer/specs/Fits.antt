@@ -1,8 +1,8 @@
 -- The jobs of a carrier, and what may come of them.
-use Rattle.std.specs.Prelude.{◌≡◌, ℕ, ◌≤◌, Bool, true, false, cond, nat_eq, List, Option, Some, None, Result, Ok, Err, IfOk}
-use Rattle.std.specs.List.{list_any}
-use Rattle.gd_names.specs.Streams.{Rose}
+use Rattle.std.specs.Prelude.{◌≡◌, ℕ, ◌≤◌, Bool, true, false, not, cond, nat_eq, List, Option, Some, None, Result, Ok, Err, IfOk}
+use Rattle.std.specs.List.{count_by}
 use Rattle.std.specs.Cmp.Lexicographic.{pointwise}
+use Rattle.gd_names.specs.Streams.{Rose}
 use Rattle.gd_item.specs.Records.{digest_record}
 use Rattle.gd_item.specs.declared.digest.Digest.{Digest}
 use Rattle.gd_item.specs.declared.fault.ErrorCode.{ErrorCode}
@@ -11,6 +11,7 @@ use Rattle.gd_item.specs.declared.reply.Reply.{Reply}
 use Rattle.gd_item.specs.declared.reply.Reply.TheVariants as reply
 use Rattle.gd_item.specs.declared.request.Request.{Request}
 use Rattle.gd_item.specs.declared.request.Request.TheVariants.{Content, Download}
+use Rattle.od_transfer.specs.Asking.{RoseBy}
 use Rattle.od_transfer.specs.declared.job.Job.{Job}
 use Rattle.od_transfer.specs.declared.job.Job.TheVariants.{Fetch}
 use Rattle.od_transfer.specs.declared.job.Outcome.{Outcome}
@@ -48,16 +49,20 @@ is_digest a b = pointwise nat_eq a.0 b.0
 abbrev pub fetched : Digest → List ℕ → Outcome
 fetched digest bytes = cond (is_digest (digest_record bytes) digest) (Fetched bytes) Changed
 
--- the counts never fall, and what is lost raised that of faults
+-- the counts never fall. What is lost raised that of faults, and any other outcome that of answers
 pub record HasFetchCause (faults_before faults_now answers_before answers_now : ℕ) {E : Type 0} (result : Result Outcome E) : Type 0 where
   pub faults_later : faults_before ≤ faults_now
   pub answers_later : answers_before ≤ answers_now
   pub lost : IfOk result (λ outcome. is_lost outcome ≡ true → Rose faults_before faults_now)
+  pub answered : IfOk result (λ outcome. is_lost outcome ≡ false → Rose answers_before answers_now)
 
+-- the same of as many outcomes as there are: as many are lost at most as the count of faults rose by, and as many others as
+-- that of answers
 pub record HasCarryCause (faults_before faults_now answers_before answers_now : ℕ) {E : Type 0} (result : Result (List Outcome) E) : Type 0 where
   pub faults_later : faults_before ≤ faults_now
   pub answers_later : answers_before ≤ answers_now
-  pub lost : IfOk result (λ outcomes. list_any is_lost outcomes ≡ true → Rose faults_before faults_now)
+  pub lost : IfOk result (λ outcomes. RoseBy (count_by is_lost outcomes) faults_before faults_now)
+  pub others : IfOk result (λ outcomes. RoseBy (count_by (λ outcome. not (is_lost outcome)) outcomes) answers_before answers_now)
 
 -- what replies to the two requests of a fetch say
 abbrev pub content_in : Reply → Option (Result (List ℕ) ErrorCode)

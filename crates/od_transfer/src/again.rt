@@ -1,5 +1,6 @@
 ghost use Rattle.std.specs.Prelude.{◌≡◌, true, IfOk};
 ghost use Rattle.od_transfer.specs.Asking.{AsksAgain, HasCauseBy, may_answer};
+ghost use Rattle.od_transfer.specs.Undisturbed.{Undisturbed, MayBeServed};
 
 use crate::remote::{AskFault, Remote};
 use gd_item::{Reply, Request};
@@ -9,6 +10,8 @@ fn ask_once<R: Remote>(remote: &mut R, alloc: Global, request: &Request) -> Resu
     ensures log { AsksAgain request.now (R.log remote.old) (R.log remote.new) result }
     ensures kind { IfOk result (λ reply. may_answer request.now reply ≡ true) }
     ensures cause { HasCauseBy 1 (R.faults remote.old) (R.faults remote.new) (R.answers remote.old) (R.answers remote.new) (R.in_row remote.old) (R.in_row remote.new) result }
+    ensures undisturbed { Undisturbed (R.undisturbed remote.old) (R.undisturbed remote.new) (R.log remote.old) (R.log remote.new) }
+    ensures no_faults { R.undisturbed remote.old ≡ true → MayBeServed request.now (R.log remote.old) → R.faults remote.new ≡ R.faults remote.old }
 {
     match remote.ask(alloc, request) {
         Ok(reply) => Ok(reply),
@@ -20,6 +23,8 @@ fn ask_twice<R: Remote>(remote: &mut R, alloc: Global, request: &Request) -> Res
     ensures log { AsksAgain request.now (R.log remote.old) (R.log remote.new) result }
     ensures kind { IfOk result (λ reply. may_answer request.now reply ≡ true) }
     ensures cause { HasCauseBy 2 (R.faults remote.old) (R.faults remote.new) (R.answers remote.old) (R.answers remote.new) (R.in_row remote.old) (R.in_row remote.new) result }
+    ensures undisturbed { Undisturbed (R.undisturbed remote.old) (R.undisturbed remote.new) (R.log remote.old) (R.log remote.new) }
+    ensures no_faults { R.undisturbed remote.old ≡ true → MayBeServed request.now (R.log remote.old) → R.faults remote.new ≡ R.faults remote.old }
 {
     match ask_once(remote, alloc, request) {
         Ok(reply) => Ok(reply),
@@ -40,6 +45,8 @@ pub fn ask_thrice<R: Remote>(
     ensures log { AsksAgain request.now (R.log remote.old) (R.log remote.new) result }
     ensures kind { IfOk result (λ reply. may_answer request.now reply ≡ true) }
     ensures cause { HasCauseBy 3 (R.faults remote.old) (R.faults remote.new) (R.answers remote.old) (R.answers remote.new) (R.in_row remote.old) (R.in_row remote.new) result }
+    ensures undisturbed { Undisturbed (R.undisturbed remote.old) (R.undisturbed remote.new) (R.log remote.old) (R.log remote.new) }
+    ensures no_faults { R.undisturbed remote.old ≡ true → MayBeServed request.now (R.log remote.old) → R.faults remote.new ≡ R.faults remote.old }
 {
     match ask_once(remote, alloc, request) {
         Ok(reply) => Ok(reply),
@@ -60,6 +67,8 @@ pub fn send_thrice<R: Remote>(
     ensures log { AsksAgain request (R.log remote.old) (R.log remote.new) result }
     ensures kind { IfOk result (λ reply. may_answer request reply ≡ true) }
     ensures cause { HasCauseBy 3 (R.faults remote.old) (R.faults remote.new) (R.answers remote.old) (R.answers remote.new) (R.in_row remote.old) (R.in_row remote.new) result }
+    ensures undisturbed { Undisturbed (R.undisturbed remote.old) (R.undisturbed remote.new) (R.log remote.old) (R.log remote.new) }
+    ensures no_faults { R.undisturbed remote.old ≡ true → MayBeServed request (R.log remote.old) → R.faults remote.new ≡ R.faults remote.old }
 {
     ask_thrice(remote, alloc, &request)
 }

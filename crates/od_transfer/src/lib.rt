@@ -4,6 +4,7 @@
 mod again;
 mod carry;
 mod job;
+mod laws;
 mod remote;
 #[cfg(test)]
 mod tests;
@@ -11,4 +12,5 @@ mod tests;
 pub use again::{ask_thrice, send_thrice};
 pub use carry::{Carrier, carry_each};
 pub use job::{Job, Outcome};
+pub use laws::{a_file_that_is_there_is_fetched, transfers_change_nothing};
 pub use remote::{AskFault, Remote};

@@ -1,4 +1,4 @@
-ghost use Rattle.std.specs.Prelude.{◌≡◌, ℕ, true, List, Option, IfOk};
+ghost use Rattle.std.specs.Prelude.{◌≡◌, ℕ, Bool, true, List, Option, IfOk};
 
 use gd_item::{Reply, Request};
 use std::alloc::Global;
@@ -17,6 +17,7 @@ pub enum AskFault {
 pub trait Remote {
     ghost use Rattle.gd_item.specs.declared.step.Step.{Step};
     ghost use Rattle.od_transfer.specs.Asking.{Asks, HasAskCause, may_answer};
+    ghost use Rattle.od_transfer.specs.Undisturbed.{Undisturbed, MayBeServed};
 
     /// What the drive was asked and what befell it, where it is told.
     ghost log: { Self → Option (List Step) };
@@ -30,9 +31,15 @@ pub trait Remote {
     /// How often no reply came since the last one, up to the last value of a u64.
     ghost in_row: { Self → ℕ };
 
+    /// Whether no one else asks the drive from now on, each request that is made is served and heard, and requests for
+    /// changes since a token that is served, and those of fetches, have a reply.
+    ghost undisturbed: { Self → Bool };
+
     /// Sends one request.
     fn ask(&mut self, alloc: Global, request: &Request) -> Result<Reply, AskFault>
         ensures log { Asks request.now (log self.old) (log self.new) result }
         ensures kind { IfOk result (λ reply. may_answer request.now reply ≡ true) }
-        ensures cause { HasAskCause (faults self.old) (faults self.new) (answers self.old) (answers self.new) (in_row self.old) (in_row self.new) result };
+        ensures cause { HasAskCause (faults self.old) (faults self.new) (answers self.old) (answers self.new) (in_row self.old) (in_row self.new) result }
+        ensures undisturbed { Undisturbed (undisturbed self.old) (undisturbed self.new) (log self.old) (log self.new) }
+        ensures no_faults { undisturbed self.old ≡ true → MayBeServed request.now (log self.old) → faults self.new ≡ faults self.old };
 }

@@ -47,7 +47,7 @@ impl OneFile {
 }
 
 impl Remote for OneFile {
-    ghost use Rattle.std.specs.Prelude.{None};
+    ghost use Rattle.std.specs.Prelude.{None, false};
 
     ghost log = { λ r. None };
 
@@ -56,6 +56,8 @@ impl Remote for OneFile {
     ghost answers = { λ r. r.answers };
 
     ghost in_row = { λ r. r.failures };
+
+    ghost undisturbed = { λ r. false };
 
     fn ask(&mut self, _alloc: Global, request: &Request) -> Result<Reply, AskFault> {
         if self.lost > 0 {

@@ -1,6 +1,11 @@
 pub mod Above
+pub mod Contained
+pub mod Entries
 pub mod Lossless
+pub mod Paths
 pub mod Removing
 pub mod Replacing
+pub mod Shaped
 pub mod Staying
 pub mod Steps
+pub mod Tied

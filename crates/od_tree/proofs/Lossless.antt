@@ -1,5 +1,6 @@
 -- Without a discard no write of the user is lost.
-use Rattle.std.proofs.Common.{◌≡◌, ℕ, ◌+◌, Bool, true, false, ◌&&◌, ◌||◌, cond, List, [], ◌∷◌, ◌++◌, length, refl, ap, sym, ◌∙◌, subst, arith}
+use Rattle.std.proofs.Common.{◌≡◌, ⊎_elim, ℕ, ◌+◌, Bool, true, false, ◌&&◌, ◌||◌, cond, nat_eq, List, [], ◌∷◌, ◌++◌, length, refl, ap, sym, ◌∙◌, subst, arith}
+use Rattle.std.specs.Cmp.Lexicographic.{pointwise}
 use Rattle.std.specs.List.{list_any, list_all}
 use Rattle.std.proofs.lemmas.Bool.{and_parts, or_parts}
 use Rattle.std.proofs.lemmas.List.{append-nil, append_assoc}
@@ -11,7 +12,7 @@ use Rattle.od_tree.specs.declared.edit.UserEdit.TheVariants.{Write, Remove, Move
 use Rattle.od_tree.specs.declared.step.LocalStep.{LocalStep}
 use Rattle.od_tree.specs.declared.step.LocalStep.TheVariants.{User, Op}
 use Rattle.od_tree.proofs.Replacing.{stays_or_replaced, write_stands}
-use Rattle.od_tree.proofs.Staying.{or_left}
+use Rattle.od_tree.proofs.Staying.{or_true, or_left, or_right, any-front}
 
 both : (a b : Bool) → a ≡ true → b ≡ true → (a && b) ≡ true
 both true b is_a is_b = is_b
@@ -42,47 +43,62 @@ writes-snoc at local (first ∷ log) last =
 
 -- ---- each step
 
-abbrev is_safe : List LocalStep → ℕ × List ℕ → Bool
-is_safe log write = is_somewhere write.0 (local_of log) || is_replaced write.0 log
+abbrev is_safe : List Version → List LocalStep → ℕ × List ℕ → Bool
+is_safe versions log write = is_somewhere write.0 (local_of log) || is_replaced write.0 log || is_accepted write.1 versions
 
-abbrev AreSafe : List LocalStep → Type 0
-AreSafe log = list_all (is_safe log) (writes log) ≡ true
+safe-still : (versions : List Version) (log : List LocalStep) (step : LocalStep) (write : ℕ × List ℕ) → is_discard step ≡ false → is_safe versions log write ≡ true → is_safe versions (log ++ step ∷ []) write ≡ true
+safe-still versions log step write keeps safe =
+    let longer : List LocalStep = log ++ step ∷ [] in
+    let there : Bool = is_somewhere write.0 (local_of longer) || is_replaced write.0 longer in
+    ⊎_elim (λ kept. or_left there (is_accepted write.1 versions) (stays_or_replaced log step write.0 keeps kept)) (λ sent. or_right there (is_accepted write.1 versions) sent)
+    (or_true (is_somewhere write.0 (local_of log) || is_replaced write.0 log) (is_accepted write.1 versions) safe)
 
-new_safe : (log : List LocalStep) (at : List (List ℕ)) (bytes : List ℕ) (place : Bool) → place ≡ has_place (local_of log) (Write at bytes)
-    → list_all (is_safe (log ++ User (Write at bytes) ∷ [])) (cond place ((length log, bytes) ∷ []) []) ≡ true
-new_safe log at bytes true is =
+new_safe : (versions : List Version) (log : List LocalStep) (at : List (List ℕ)) (bytes : List ℕ) (place : Bool) → place ≡ has_place (local_of log) (Write at bytes)
+    → list_all (is_safe versions (log ++ User (Write at bytes) ∷ [])) (cond place ((length log, bytes) ∷ []) []) ≡ true
+new_safe versions log at bytes true is =
     let longer : List LocalStep = log ++ User (Write at bytes) ∷ [] in
-    both (is_safe longer (length log, bytes)) true (or_left (is_somewhere (length log) (local_of longer)) (is_replaced (length log) longer) (write_stands log at bytes (sym is))) refl
-new_safe log at bytes false is = refl
+    let stands : Bool = is_somewhere (length log) (local_of longer) in
+    let there : Bool = stands || is_replaced (length log) longer in
+    both (is_safe versions longer (length log, bytes)) true
+    (or_left there (is_accepted bytes versions) (or_left stands (is_replaced (length log) longer) (write_stands log at bytes (sym is)))) refl
+new_safe versions log at bytes false is = refl
 
-write-safe : (log : List LocalStep) (step : LocalStep) → list_all (is_safe (log ++ step ∷ [])) (write_by (length log) (local_of log) step) ≡ true
-write-safe log (User (Write at bytes)) = new_safe log at bytes (has_place (local_of log) (Write at bytes)) refl
-write-safe log (User (Remove at)) = refl
-write-safe log (User (Move from to)) = refl
-write-safe log (User (MakeFolder at)) = refl
-write-safe log (Op call) = refl
+write-safe : (versions : List Version) (log : List LocalStep) (step : LocalStep) → list_all (is_safe versions (log ++ step ∷ [])) (write_by (length log) (local_of log) step) ≡ true
+write-safe versions log (User (Write at bytes)) = new_safe versions log at bytes (has_place (local_of log) (Write at bytes)) refl
+write-safe versions log (User (Remove at)) = refl
+write-safe versions log (User (Move from to)) = refl
+write-safe versions log (User (MakeFolder at)) = refl
+write-safe versions log (Op call) = refl
 
-step-safe : (log : List LocalStep) (step : LocalStep) → is_discard step ≡ false → AreSafe log → AreSafe (log ++ step ∷ [])
-step-safe log step keeps are =
+step-safe : (versions : List Version) (log : List LocalStep) (step : LocalStep) → is_discard step ≡ false → no_loss log versions ≡ true → no_loss (log ++ step ∷ []) versions ≡ true
+step-safe versions log step keeps are =
     let longer : List LocalStep = log ++ step ∷ [] in
     let e : 0 + length log ≡ length log = omega arith in
     let grown : writes longer ≡ writes log ++ write_by (length log) (local_of log) step = writes-snoc 0 empty_folder log step ∙ ap (λ n. writes log ++ write_by n (local_of log) step) e in
-    subst (λ (xs : List (ℕ × List ℕ)). list_all (is_safe longer) xs ≡ true) (sym grown)
-    (all-append (is_safe longer) (writes log) (write_by (length log) (local_of log) step)
-    (all-weaker (is_safe log) (is_safe longer) (writes log) (λ write safe. stays_or_replaced log step write.0 keeps safe) are) (write-safe log step))
+    subst (λ (xs : List (ℕ × List ℕ)). list_all (is_safe versions longer) xs ≡ true) (sym grown)
+    (all-append (is_safe versions longer) (writes log) (write_by (length log) (local_of log) step)
+    (all-weaker (is_safe versions log) (is_safe versions longer) (writes log) (λ write safe. safe-still versions log step write keeps safe) are) (write-safe versions log step))
 
-steps-safe : (log more : List LocalStep) → list_any is_discard more ≡ false → AreSafe log → AreSafe (log ++ more)
-steps-safe log [] keep are = subst AreSafe (sym (append-nil log)) are
-steps-safe log (step ∷ more) keep are =
+steps-safe : (versions : List Version) (log more : List LocalStep) → list_any is_discard more ≡ false → no_loss log versions ≡ true → no_loss (log ++ more) versions ≡ true
+steps-safe versions log [] keep are = subst (λ (steps : List LocalStep). no_loss steps versions ≡ true) (sym (append-nil log)) are
+steps-safe versions log (step ∷ more) keep are =
     let parts = or_parts (is_discard step) (list_any is_discard more) keep in
-    subst AreSafe (append_assoc log (step ∷ []) more) (steps-safe (log ++ step ∷ []) more parts.1 (step-safe log step parts.0 are))
+    subst (λ (steps : List LocalStep). no_loss steps versions ≡ true) (append_assoc log (step ∷ []) more)
+    (steps-safe versions (log ++ step ∷ []) more parts.1 (step-safe versions log step parts.0 are))
 
-or_more : (a b c : Bool) → (a || b) ≡ true → (a || b || c) ≡ true
-or_more true b c is = refl
-or_more false true c is = refl
-or_more false false c is = cc
+-- ---- more versions
+
+accepted-still : (versions later : List Version) (log : List LocalStep) (write : ℕ × List ℕ) → is_safe versions log write ≡ true → is_safe (versions ++ later) log write ≡ true
+accepted-still versions later log write safe =
+    let there : Bool = is_somewhere write.0 (local_of log) || is_replaced write.0 log in
+    ⊎_elim (λ kept. or_left there (is_accepted write.1 (versions ++ later)) kept)
+    (λ sent. or_right there (is_accepted write.1 (versions ++ later)) (any-front (λ (version : Version). pointwise nat_eq version.bytes write.1) versions later sent))
+    (or_true there (is_accepted write.1 versions) safe)
+
+pub no_more_lost : (log more : List LocalStep) (versions later : List Version) → list_any is_discard more ≡ false → no_loss log versions ≡ true → no_loss (log ++ more) (versions ++ later) ≡ true
+no_more_lost log more versions later keep are =
+    all-weaker (is_safe versions (log ++ more)) (is_safe (versions ++ later) (log ++ more)) (writes (log ++ more)) (λ write safe. accepted-still versions later (log ++ more) write safe)
+    (steps-safe versions log more keep are)
 
 pub nothing_lost : (log : List LocalStep) (versions : List Version) → list_any is_discard log ≡ false → no_loss log versions ≡ true
-nothing_lost log versions keep =
-    all-weaker (is_safe log) (λ (write : ℕ × List ℕ). is_somewhere write.0 (local_of log) || is_replaced write.0 log || is_accepted write.1 versions) (writes log)
-    (λ write safe. or_more (is_somewhere write.0 (local_of log)) (is_replaced write.0 log) (is_accepted write.1 versions) safe) (steps-safe [] log keep refl)
+nothing_lost log versions keep = no_more_lost [] log [] versions keep refl

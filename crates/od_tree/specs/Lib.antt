@@ -6,4 +6,7 @@ pub mod Local
 pub mod Loss
 pub mod Memory
 pub mod Samples
+pub mod Shape
 pub mod Taking
+pub mod Tied
+pub mod Undisturbed

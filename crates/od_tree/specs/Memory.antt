@@ -1,5 +1,5 @@
 -- What the folder in memory tells.
-use Rattle.std.specs.Prelude.{ℕ, List, Option, Some}
+use Rattle.std.specs.Prelude.{ℕ, Bool, true, false, ◌&&◌, List, [], ◌∷◌, Option, Some}
 use Rattle.od_tree.specs.declared.call.TreeCall.{TreeCall}
 use Rattle.od_tree.specs.declared.edit.UserEdit.{UserEdit}
 use Rattle.od_tree.specs.declared.memory.MemoryTree.{MemoryTree}
@@ -19,3 +19,11 @@ edits_of tree = tree.edits
 
 abbrev pub failing_of : MemoryTree → List (TreeCall × ℕ)
 failing_of tree = tree.failing
+
+-- whether there are none of either
+abbrev pub is_empty : {X : Type 0} → List X → Bool
+is_empty [] = true
+is_empty (x ∷ xs) = false
+
+abbrev pub is_undisturbed : MemoryTree → Bool
+is_undisturbed tree = is_empty (edits_of tree) && is_empty (failing_of tree)

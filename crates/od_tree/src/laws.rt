@@ -1,10 +1,13 @@
 //! Laws of the definitions, each the contract of a function that does nothing.
 ghost use Rattle.std.specs.Prelude.{◌≡◌, ℕ, true, false, ◌||◌, List, [], ◌∷◌, ◌++◌, length};
-ghost use Rattle.std.specs.List.{list_any};
+ghost use Rattle.std.specs.List.{list_any, AllByRecursion};
 ghost use Rattle.gd_item.specs.declared.live.Version.{Version};
+ghost use Rattle.od_tree.specs.Collisions.{contents};
 ghost use Rattle.od_tree.specs.Local.{local_of, has_place};
 ghost use Rattle.od_tree.specs.Loss.{is_somewhere, is_replaced, no_loss};
+ghost use Rattle.od_tree.specs.Shape.{IsTree, IsOneOf};
 ghost use Rattle.od_tree.specs.Taking.{may_take, is_discard};
+ghost use Rattle.od_tree.specs.declared.local.Spot.{Spot};
 ghost use Rattle.od_tree.specs.declared.step.LocalStep.{LocalStep};
 ghost use Rattle.od_tree.specs.declared.step.LocalStep.TheVariants.{User};
 ghost use Rattle.od_tree.specs.declared.edit.UserEdit.TheVariants.{Write};
@@ -32,4 +35,20 @@ pub fn a_written_file_stands()
 /// Where the client discards nothing, no write of the user is lost.
 pub fn nothing_is_lost_without_a_discard()
     ensures { (log : List LocalStep) (versions : List Version) → list_any is_discard log ≡ false → no_loss log versions ≡ true }
+{}
+
+/// While the client discards nothing, no more writes of the user are lost.
+pub fn no_more_is_lost_without_a_discard()
+    ensures { (log more : List LocalStep) (versions later : List Version) → list_any is_discard more ≡ false
+        → no_loss log versions ≡ true → no_loss (log ++ more) (versions ++ later) ≡ true }
+{}
+
+/// The entries of every folder make a tree.
+pub fn every_folder_is_a_tree()
+    ensures { (log : List LocalStep) → IsTree (local_of log).spots }
+{}
+
+/// The bytes of each file in the folder were written by the user or placed by the client.
+pub fn contents_were_written_or_placed()
+    ensures { (log : List LocalStep) (versions : List Version) → AllByRecursion (λ (spot : Spot). IsOneOf (contents log versions) spot.file) (local_of log).spots }
 {}

@@ -1,6 +1,8 @@
-ghost use Rattle.std.specs.Prelude.{◌≡◌, ◌⊎◌, ◌≤◌, ◌<◌, ℕ, List, [], ◌∷◌, ◌++◌, cond, Some, OnErr, IfOk, IfErr, IsErrOf};
+ghost use Rattle.std.specs.Prelude.{◌≡◌, ◌⊎◌, ◌≤◌, ◌<◌, ◌+◌, ◌-◌, ◌^◌, ℕ, min, true, false, List, [], ◌∷◌, ◌++◌, cond, slice_index, slice_set, Some, OnOk, OnErr, IfOk, IfErr, IsErrOf};
 ghost use Rattle.gd_names.specs.Streams.{Rose};
 ghost use Rattle.od_tree.specs.Doing.{Begins};
+ghost use Rattle.od_tree.specs.Memory.{is_empty};
+ghost use Rattle.od_tree.specs.Tied.{kind_of, is_call, is_listed, with_due, with_tied};
 
 use crate::call::TreeCall;
 use crate::edit::UserEdit;
@@ -70,12 +72,20 @@ impl MemoryTree {
         ensures later { self.old.faults ≤ self.new.faults }
         ensures failed { IsErrOf result TreeFault.Failed → Rose self.old.faults self.new.faults }
         ensures kinds { IfErr result (λ fault. (fault ≡ TreeFault.Failed) ⊎ (fault ≡ TreeFault.Memory)) }
+        ensures counted { self.new.calls ≡ slice_set self.old.calls (kind_of call) (min (slice_index self.old.calls (kind_of call) + 1) (2 ^ 64 - 1)) }
+        ensures edits { self.new.edits ≡ self.old.edits }
+        ensures failing { self.new.failing ≡ self.old.failing }
+        ensures tied { OnOk result (self.new.folder ≡ with_tied self.old.folder self.old.edits (kind_of call) (slice_index self.new.calls (kind_of call))) }
+        ensures passes { OnOk result (is_listed self.old.failing (kind_of call) (slice_index self.new.calls (kind_of call)) ≡ false) }
+        ensures fails { IsErrOf result TreeFault.Failed → is_listed self.old.failing (kind_of call) (slice_index self.new.calls (kind_of call)) ≡ true }
+        ensures alone { is_empty self.old.edits ≡ true → self.new.folder ≡ self.old.folder }
+        ensures no_faults { is_empty self.old.failing ≡ true → self.new.faults ≡ self.old.faults }
     {
-        let index = index_of(call);
-        let number = self.calls[index].saturating_add(1);
-        self.calls[index] = number;
-        make_edits(&mut self.folder, self.edits.as_slice(), call, number)?;
-        if is_listed(self.failing.as_slice(), call, number) {
+        let kind = kind_of(call);
+        let number = self.calls[kind].saturating_add(1);
+        self.calls[kind] = number;
+        make_edits(&mut self.folder, self.edits.as_slice(), kind, number)?;
+        if is_listed(self.failing.as_slice(), kind, number) {
             self.faults = self.faults.saturating_add(1);
             return Err(TreeFault::Failed);
         }
@@ -84,8 +94,9 @@ impl MemoryTree {
 }
 
 /// A number of its own for each kind of call.
-fn index_of(call: TreeCall) -> usize
-    ensures { result < 11 }
+fn kind_of(call: TreeCall) -> usize
+    ensures value { result ≡ kind_of call }
+    ensures bound { result < 11 }
 {
     match call {
         TreeCall::List => 0,
@@ -102,9 +113,17 @@ fn index_of(call: TreeCall) -> usize
     }
 }
 
-fn is_listed(failing: &[(TreeCall, u64)], call: TreeCall, number: u64) -> bool {
-    for (kind, at) in failing {
-        if *kind == call && *at == number {
+fn is_call(tied: TreeCall, at: u64, kind: usize, number: u64) -> bool
+    ensures { result ≡ is_call tied at kind number }
+{
+    kind_of(tied) == kind && at == number
+}
+
+fn is_listed(failing: &[(TreeCall, u64)], kind: usize, number: u64) -> bool
+    ensures { result ≡ is_listed failing.now kind number }
+{
+    for (call, at) in failing {
+        if is_call(*call, *at, kind, number) {
             return true;
         }
     }
@@ -115,20 +134,23 @@ fn is_listed(failing: &[(TreeCall, u64)], call: TreeCall, number: u64) -> bool {
 fn make_edits(
     folder: &mut Folder,
     edits: &[(TreeCall, u64, UserEdit)],
-    call: TreeCall,
+    kind: usize,
     number: u64,
 ) -> Result<(), NoMemory>
-    ensures { Begins folder.old folder.new }
+    ensures log { Begins folder.old folder.new }
+    ensures tied { OnOk result (folder.new ≡ with_tied folder.old edits.now kind number) }
+    ensures alone { is_empty edits.now ≡ true → folder.new ≡ folder.old }
 {
     folder.reserve(edits.len() + 1)?;
-    for (kind, at, edit) in edits {
-        make_due(folder, *kind == call && *at == number, edit)?;
+    for (call, at, edit) in edits {
+        make_due(folder, is_call(*call, *at, kind, number), edit)?;
     }
     Ok(())
 }
 
 fn make_due(folder: &mut Folder, due: bool, edit: &UserEdit) -> Result<(), NoMemory>
-    ensures { Begins folder.old folder.new }
+    ensures log { Begins folder.old folder.new }
+    ensures due { OnOk result (folder.new ≡ with_due folder.old due edit.now) }
 {
     if !due {
         return Ok(());
@@ -138,11 +160,13 @@ fn make_due(folder: &mut Folder, due: bool, edit: &UserEdit) -> Result<(), NoMem
 }
 
 impl Tree for MemoryTree {
-    ghost use Rattle.od_tree.specs.Memory.{log_of, faults_of};
+    ghost use Rattle.od_tree.specs.Memory.{log_of, faults_of, is_undisturbed};
 
     ghost log = { λ t. log_of t };
 
     ghost faults = { λ t. faults_of t };
+
+    ghost undisturbed = { λ t. is_undisturbed t };
 
     fn list(&mut self, alloc: Global, at: &Path) -> Result<List<Entry>, TreeFault> {
         self.begin(TreeCall::List)?;

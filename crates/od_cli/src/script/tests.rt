@@ -36,7 +36,8 @@ fn bad_lines(rt: HostRuntime) {
         ("other  put /a \"x\"", 1),
         ("other put /a  \"x\"", 1),
         ("other mkdir /a b", 1),
-        ("sync", 1),
+        ("sync --resync", 1),
+        ("local ", 1),
         ("other move /a", 1),
         ("other move /a /b c", 1),
         ("other move / /b", 1),
@@ -51,7 +52,7 @@ fn bad_lines(rt: HostRuntime) {
         ("drive ", 1),
         ("pull ", 1),
         ("pull\r\n", 1),
-        ("pull\n# sync\nsync\nsync", 3),
+        ("pull\n# what\nwhat\nwhat", 3),
     ];
     for (text, wanted) in rows {
         assert_eq!(rt;

@@ -1,6 +1,6 @@
-use Rattle.std.proofs.Common.{drop}
-use Rattle.od_cli.proofs.Playing.{Playing}
+use Rattle.std.proofs.Common.{take}
+use Rattle.od_cli.proofs.Playing.{PlayedTo}
 use Rattle.od_cli.proofs.play.play.Given as goal
 
 abbrev pub invariant-loop-line : goal.invariant-loop-line
-invariant-loop-line l = Playing l.drive l.out (drop l.line-index l.lines) l.lines
+invariant-loop-line l = PlayedTo l.run.world l.run.folder l.run.keeper l.run.counted l.out (take l.line-index l.lines)

@@ -1,5 +1,5 @@
-use Rattle.std.proofs.Common.{◌≡◌, ◌++◌, List, sym, subst}
-use Rattle.gd_item.specs.Inventory.{Inventory, Effect, inventory}
+use Rattle.std.proofs.Common.{◌≡◌, ◌++◌, List}
+use Rattle.gd_item.specs.Inventory.{Effect, inventory}
 use Rattle.gd_item.specs.Steps.{state_of}
 use Rattle.gd_store.specs.Stands.{Stands}
 use Rattle.od_cli.specs.Played.{drive_text}
@@ -10,12 +10,10 @@ use Rattle.od_cli.proofs.Shown.{drive-plays}
 use Rattle.od_cli.proofs.pull.print_drive.Goals as goal
 
 pub print_store-requires : goal.print_store-requires
-print_store-requires c =
-    let P : Inventory → Type 0 = λ v. Stands v (state_of c.requires.log).effects in
-    ((state_of c.requires.log).effects, subst P (sym c.store.ensures) c.requires.stands.store)
+print_store-requires c = ((state_of c.args.world.now.log).effects, c.store.ensures)
 
 pub returns : goal.returns
 returns c =
     ok-gives c.print_store.result ((log : List Effect) → Stands c.store.result.now log → c.print_store.new.out ≡ c.args.out.now ++ drive_text (inventory log))
-    (Plays c.args.drive.now c.args.drive.now c.args.out.now c.print_store.new.out Drive) c.print_store.ensures
-    (λ printed. drive-plays c.args.drive.now c.store.result.now c.args.out.now c.print_store.new.out c.store.ensures printed)
+    (Plays c.args.world.now c.args.world.now c.args.out.now c.print_store.new.out Drive) c.print_store.ensures
+    (λ printed. drive-plays c.args.world.now c.store.result.now c.args.out.now c.print_store.new.out c.store.ensures printed)

@@ -10,6 +10,6 @@ use Rattle.od_cli.proofs.pull.print_pull.Goals as goal
 pub returns : goal.returns
 returns c =
     ok-gives c.print_items.result (c.print_items.new.out ≡ c.print_number.new.out ++ flat_map item_line c.as_slice.result.now)
-    (Plays c.args.drive.now c.ask_page.new.drive c.args.out.now c.print_items.new.out Pull) c.print_items.ensures
-    (λ printed. pull-plays c.args.drive.now c.ask_page.new.drive c.store.result.now c.args.out.now c.print_number.new.out c.print_items.new.out c.in-Some.page.items c.in_ok-paths.paths c.as_slice.result.now c.number-number.result
-    c.store.ensures c.number-number.ensures c.in-Some.ensures.page c.ask_page.ensures.size c.in_ok-paths.ensures c.as_slice.ensures c.in_ok-print_number.ensures printed)
+    (Plays c.args.world.now c.ask_page.new.world c.args.out.now c.print_items.new.out Pull) c.print_items.ensures
+    (λ printed. pull-plays c.args.world.now c.ask_page.new.world c.store.result.now c.args.out.now c.print_number.new.out c.print_items.new.out c.in_ok-page.page.items c.in_ok-paths.paths c.as_slice.result.now c.number-number.result
+    c.store.ensures c.number-number.ensures c.in_ok-page.ensures.items c.in_ok-page.ensures.log c.in_ok-paths.ensures c.as_slice.ensures c.in_ok-print_number.ensures printed)

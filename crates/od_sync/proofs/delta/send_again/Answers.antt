@@ -1,6 +1,7 @@
 use Rattle.std.proofs.Common.{subst, arith}
 use Rattle.od_sync.specs.Deltas.{SentCause}
 use Rattle.od_sync.proofs.Sends.{asks-page, asks-stopped, asks-failed, asks-unserved, spent-sent}
+use Rattle.od_sync.proofs.Undisturbing.{undisturbed-then, no-faults-again}
 use Rattle.od_sync.proofs.delta.send_again.Goals as goal
 
 pub returns-in_err-sent-clause-log : goal.returns-in_err-sent-clause-log
@@ -8,10 +9,32 @@ returns-in_err-sent-clause-log g c =
     asks-stopped c.args.request.now c.loop-sent.replies c.from_residual.result (g.R.Remote.log c.args.remote.now) (g.R.Remote.log c.loop-sent.remote) (g.R.Remote.log c.send_delta.new.remote)
     c.in_err-sent.field-0.0 c.from_residual.ensures c.loop-sent.invariant.log c.in_err-sent.ensures.log
 
+pub returns-in_err-sent-clause-undisturbed : goal.returns-in_err-sent-clause-undisturbed
+returns-in_err-sent-clause-undisturbed g c =
+    undisturbed-then (g.R.Remote.undisturbed c.args.remote.now) (g.R.Remote.undisturbed c.loop-sent.remote) (g.R.Remote.undisturbed c.send_delta.new.remote)
+    (g.R.Remote.log c.args.remote.now) (g.R.Remote.log c.loop-sent.remote) (g.R.Remote.log c.send_delta.new.remote) c.loop-sent.invariant.undisturbed c.in_err-sent.ensures.undisturbed
+
+pub returns-in_err-sent-clause-no_faults : goal.returns-in_err-sent-clause-no_faults
+returns-in_err-sent-clause-no_faults g c =
+    no-faults-again c.args.request.now c.loop-sent.replies (g.R.Remote.undisturbed c.args.remote.now) (g.R.Remote.undisturbed c.loop-sent.remote) (g.R.Remote.log c.args.remote.now) (g.R.Remote.log c.loop-sent.remote)
+    (g.R.Remote.faults c.args.remote.now) (g.R.Remote.faults c.loop-sent.remote) (g.R.Remote.faults c.send_delta.new.remote) c.loop-sent.invariant.undisturbed c.loop-sent.invariant.log c.loop-sent.invariant.no_faults
+    c.in_err-sent.ensures.no_faults
+
 pub returns-in-Ok-clause-log : goal.returns-in-Ok-clause-log
 returns-in-Ok-clause-log g c =
     asks-page c.args.request.now c.loop-sent.replies c.in-Ok.page c.in_ok-sent.sent (g.R.Remote.log c.args.remote.now) (g.R.Remote.log c.loop-sent.remote) (g.R.Remote.log c.send_delta.new.remote)
     c.in-Ok.is c.loop-sent.invariant.log c.in_ok-sent.ensures.log
+
+pub returns-in-Ok-clause-undisturbed : goal.returns-in-Ok-clause-undisturbed
+returns-in-Ok-clause-undisturbed g c =
+    undisturbed-then (g.R.Remote.undisturbed c.args.remote.now) (g.R.Remote.undisturbed c.loop-sent.remote) (g.R.Remote.undisturbed c.send_delta.new.remote)
+    (g.R.Remote.log c.args.remote.now) (g.R.Remote.log c.loop-sent.remote) (g.R.Remote.log c.send_delta.new.remote) c.loop-sent.invariant.undisturbed c.in_ok-sent.ensures.undisturbed
+
+pub returns-in-Ok-clause-no_faults : goal.returns-in-Ok-clause-no_faults
+returns-in-Ok-clause-no_faults g c =
+    no-faults-again c.args.request.now c.loop-sent.replies (g.R.Remote.undisturbed c.args.remote.now) (g.R.Remote.undisturbed c.loop-sent.remote) (g.R.Remote.log c.args.remote.now) (g.R.Remote.log c.loop-sent.remote)
+    (g.R.Remote.faults c.args.remote.now) (g.R.Remote.faults c.loop-sent.remote) (g.R.Remote.faults c.send_delta.new.remote) c.loop-sent.invariant.undisturbed c.loop-sent.invariant.log c.loop-sent.invariant.no_faults
+    c.in_ok-sent.ensures.no_faults
 
 pub loop-sent-preserved : goal.loop-sent-preserved
 loop-sent-preserved g c =
@@ -28,6 +51,10 @@ loop-sent-preserved g c =
       };
       faults_later = omega (arith, before.faults_later, one.cause.faults_later);
       answers_later = omega (arith, before.answers_later, one.cause.answers_later);
+      undisturbed = undisturbed-then (g.R.Remote.undisturbed c.args.remote.now) (g.R.Remote.undisturbed c.loop-sent.remote) (g.R.Remote.undisturbed c.send_delta.new.remote)
+          (g.R.Remote.log c.args.remote.now) (g.R.Remote.log c.loop-sent.remote) (g.R.Remote.log c.send_delta.new.remote) before.undisturbed one.undisturbed;
+      no_faults = no-faults-again c.args.request.now c.loop-sent.replies (g.R.Remote.undisturbed c.args.remote.now) (g.R.Remote.undisturbed c.loop-sent.remote) (g.R.Remote.log c.args.remote.now) (g.R.Remote.log c.loop-sent.remote)
+          (g.R.Remote.faults c.args.remote.now) (g.R.Remote.faults c.loop-sent.remote) (g.R.Remote.faults c.send_delta.new.remote) before.undisturbed before.log before.no_faults one.no_faults;
     }
 
 pub returns-then-replies-eq0-clause-log : goal.returns-then-replies-eq0-clause-log

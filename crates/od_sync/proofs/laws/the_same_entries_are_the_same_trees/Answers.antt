@@ -1,5 +1,5 @@
-use Rattle.od_sync.proofs.Compared.{same-as-drive}
+use Rattle.od_sync.proofs.SameTrees.{same-as-drive}
 use Rattle.od_sync.proofs.laws.the_same_entries_are_the_same_trees.Goals as goal
 
 pub returns : goal.returns
-returns c local held sound apart is = same-as-drive local held sound apart is
+returns c = same-as-drive

@@ -1,7 +1,7 @@
 use Rattle.std.proofs.Common.{List, ap, ◌∙◌}
 use Rattle.od_tree.specs.declared.entry.Entry.{Entry}
 use Rattle.od_sync.specs.Visits.{turns, pushed}
-use Rattle.od_sync.proofs.Looking.{root-some, root-none}
+use Rattle.od_sync.proofs.Looks.{root-some, root-none}
 use Rattle.od_sync.proofs.scanning.begin.Goals as goal
 
 pub returns-in-Some-clause-found : goal.returns-in-Some-clause-found

@@ -1,7 +1,7 @@
 use Rattle.std.proofs.Common.{◌≡◌, Some}
 use Rattle.od_tree.specs.Local.{file_at, bytes_in}
 use Rattle.od_tree.specs.declared.step.TreeOp.TheVariants as op
-use Rattle.od_sync.proofs.Looking.{looks-ok, looks-err, sees-read, sees-no-read, digest-is}
+use Rattle.od_sync.proofs.Looks.{looks-ok, looks-err, shows-read, shows-no-read, digest-is}
 use Rattle.od_sync.proofs.scanning.look_at_file.Goals as goal
 
 pub returns-in-Ok-clause-log : goal.returns-in-Ok-clause-log
@@ -22,9 +22,9 @@ returns-in-Err-Memory-clause-log g c =
 
 pub returns-in-Ok-clause-found : goal.returns-in-Ok-clause-found
 returns-in-Ok-clause-found g c =
-    sees-read c.args.at.now (g.T.Tree.log c.args.tree.now) (g.T.Tree.log c.read.new.self) c.in-Ok.bytes c.digest_of.result
+    shows-read c.args.at.now (g.T.Tree.log c.args.tree.now) (g.T.Tree.log c.read.new.self) c.in-Ok.bytes c.digest_of.result
     (digest-is c.digest_of.result c.as_slice.result.now c.in-Ok.bytes c.digest_of.ensures c.as_slice.ensures) c.in-Ok.ensures.log
 
 pub returns-in-Err-Missing-clause-found : goal.returns-in-Err-Missing-clause-found
 returns-in-Err-Missing-clause-found g c =
-    sees-no-read c.args.at.now (g.T.Tree.log c.args.tree.now) (g.T.Tree.log c.read.new.self) c.in-Err-Missing.field-0 c.in-Err-Missing.field-0-is c.in-Err-Missing.ensures.log
+    shows-no-read c.args.at.now (g.T.Tree.log c.args.tree.now) (g.T.Tree.log c.read.new.self) c.in-Err-Missing.field-0 c.in-Err-Missing.field-0-is c.in-Err-Missing.ensures.log

@@ -1,7 +1,7 @@
 use Rattle.std.proofs.Common.{◌≡◌}
 use Rattle.od_tree.specs.Listing.{entries_in}
 use Rattle.od_tree.specs.declared.step.TreeOp.TheVariants as op
-use Rattle.od_sync.proofs.Looking.{looks-ok, looks-err, sees-list, sees-no-list}
+use Rattle.od_sync.proofs.Looks.{looks-ok, looks-err, shows-list, shows-no-list}
 use Rattle.od_sync.proofs.scanning.look_at_folder.Goals as goal
 
 pub returns-in-Ok-clause-log : goal.returns-in-Ok-clause-log
@@ -21,8 +21,8 @@ returns-in-Err-Memory-clause-log g c =
     looks-err (op.List c.args.at.now) (λ local entries. entries ≡ entries_in c.args.at.now local.spots) (g.T.Tree.log c.args.tree.now) (g.T.Tree.log c.list.new.self) c.in-Err-Memory.field-0 tt c.in-Err-Memory.ensures.log
 
 pub returns-in-Ok-clause-found : goal.returns-in-Ok-clause-found
-returns-in-Ok-clause-found g c = sees-list c.args.at.now (g.T.Tree.log c.args.tree.now) (g.T.Tree.log c.list.new.self) c.in-Ok.entries c.in-Ok.ensures.log
+returns-in-Ok-clause-found g c = shows-list c.args.at.now (g.T.Tree.log c.args.tree.now) (g.T.Tree.log c.list.new.self) c.in-Ok.entries c.in-Ok.ensures.log
 
 pub returns-in-Err-Missing-clause-found : goal.returns-in-Err-Missing-clause-found
 returns-in-Err-Missing-clause-found g c =
-    sees-no-list c.args.at.now (g.T.Tree.log c.args.tree.now) (g.T.Tree.log c.list.new.self) c.in-Err-Missing.field-0 c.in-Err-Missing.field-0-is c.in-Err-Missing.ensures.log
+    shows-no-list c.args.at.now (g.T.Tree.log c.args.tree.now) (g.T.Tree.log c.list.new.self) c.in-Err-Missing.field-0 c.in-Err-Missing.field-0-is c.in-Err-Missing.ensures.log

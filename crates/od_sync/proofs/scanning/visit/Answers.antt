@@ -1,6 +1,6 @@
 use Rattle.od_sync.specs.Visits.{Sees, Visits, digest_at, found_file, turns}
 use Rattle.std.proofs.Common.{◌≡◌, ◌++◌}
-use Rattle.od_sync.proofs.Looking.{on-ok, file-visit}
+use Rattle.od_sync.proofs.Looks.{on-ok, file-visit}
 use Rattle.od_sync.proofs.scanning.visit.Goals as goal
 
 pub returns-else-folder-clause-found : goal.returns-else-folder-clause-found

@@ -1,4 +1,4 @@
-use Rattle.od_sync.proofs.Looking.{found-some, found-none}
+use Rattle.od_sync.proofs.Looks.{found-some, found-none}
 use Rattle.od_sync.proofs.scanning.visit_file.Goals as goal
 
 pub returns-in_ok-push-in-Some-clause-found : goal.returns-in_ok-push-in-Some-clause-found

@@ -1,4 +1,5 @@
 use Rattle.od_transfer.proofs.Repeats.{again-heard, again-unheard}
+use Rattle.od_transfer.proofs.Undisturbing.{undisturbed_then, no_faults-again}
 use Rattle.od_transfer.proofs.again.ask_thrice.Goals as goal
 
 pub returns-in-Ok-ask_twice-clause-log : goal.returns-in-Ok-ask_twice-clause-log
@@ -8,3 +9,21 @@ returns-in-Ok-ask_twice-clause-log g c =
 pub returns-in-Err-clause-log : goal.returns-in-Err-clause-log
 returns-in-Err-clause-log g c =
     again-unheard c.args.request.now c.in-Err-Failed.field-0 c.in-Err.fault (g.R.Remote.log c.args.remote.now) (g.R.Remote.log c.ask_once.new.remote) (g.R.Remote.log c.ask_twice.new.remote) c.in-Err-Failed.ensures.log c.in-Err.ensures.log
+
+pub returns-in-Ok-ask_twice-clause-undisturbed : goal.returns-in-Ok-ask_twice-clause-undisturbed
+returns-in-Ok-ask_twice-clause-undisturbed g c =
+    undisturbed_then (g.R.Remote.undisturbed c.args.remote.now) (g.R.Remote.undisturbed c.ask_once.new.remote) (g.R.Remote.undisturbed c.ask_twice.new.remote) (g.R.Remote.log c.args.remote.now) (g.R.Remote.log c.ask_once.new.remote) (g.R.Remote.log c.ask_twice.new.remote) c.in-Err-Failed.ensures.undisturbed c.in-Ok-ask_twice.ensures.undisturbed
+
+pub returns-in-Ok-ask_twice-clause-no_faults : goal.returns-in-Ok-ask_twice-clause-no_faults
+returns-in-Ok-ask_twice-clause-no_faults g c =
+    no_faults-again c.args.request.now c.in-Err-Failed.field-0 (g.R.Remote.undisturbed c.args.remote.now) (g.R.Remote.undisturbed c.ask_once.new.remote) (g.R.Remote.log c.args.remote.now) (g.R.Remote.log c.ask_once.new.remote)
+    (g.R.Remote.faults c.args.remote.now) (g.R.Remote.faults c.ask_once.new.remote) (g.R.Remote.faults c.ask_twice.new.remote) c.in-Err-Failed.ensures.undisturbed c.in-Err-Failed.ensures.log c.in-Err-Failed.ensures.no_faults c.in-Ok-ask_twice.ensures.no_faults
+
+pub returns-in-Err-clause-undisturbed : goal.returns-in-Err-clause-undisturbed
+returns-in-Err-clause-undisturbed g c =
+    undisturbed_then (g.R.Remote.undisturbed c.args.remote.now) (g.R.Remote.undisturbed c.ask_once.new.remote) (g.R.Remote.undisturbed c.ask_twice.new.remote) (g.R.Remote.log c.args.remote.now) (g.R.Remote.log c.ask_once.new.remote) (g.R.Remote.log c.ask_twice.new.remote) c.in-Err-Failed.ensures.undisturbed c.in-Err.ensures.undisturbed
+
+pub returns-in-Err-clause-no_faults : goal.returns-in-Err-clause-no_faults
+returns-in-Err-clause-no_faults g c =
+    no_faults-again c.args.request.now c.in-Err-Failed.field-0 (g.R.Remote.undisturbed c.args.remote.now) (g.R.Remote.undisturbed c.ask_once.new.remote) (g.R.Remote.log c.args.remote.now) (g.R.Remote.log c.ask_once.new.remote)
+    (g.R.Remote.faults c.args.remote.now) (g.R.Remote.faults c.ask_once.new.remote) (g.R.Remote.faults c.ask_twice.new.remote) c.in-Err-Failed.ensures.undisturbed c.in-Err-Failed.ensures.log c.in-Err-Failed.ensures.no_faults c.in-Err.ensures.no_faults

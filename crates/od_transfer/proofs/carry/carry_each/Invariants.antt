@@ -1,7 +1,8 @@
-use Rattle.std.proofs.Common.{◌≡◌, ◌≤◌, true, take}
-use Rattle.std.specs.List.{AllZip, list_any}
-use Rattle.gd_names.specs.Streams.{Rose}
-use Rattle.od_transfer.specs.Asking.{Grows}
+use Rattle.std.proofs.Common.{◌≡◌, ◌≤◌, true, not, take}
+use Rattle.std.specs.List.{AllZip, count_by}
+use Rattle.od_transfer.specs.Asking.{Grows, RoseBy}
+use Rattle.od_transfer.specs.Explained.{Carries}
+use Rattle.od_transfer.specs.Undisturbed.{Undisturbed}
 use Rattle.od_transfer.specs.Fits.{Fits, IsTransfer, is_lost}
 use Rattle.od_transfer.proofs.carry.carry_each.Given as goal
 
@@ -10,7 +11,11 @@ abbrev pub invariant-loop-job : goal.invariant-loop-job
 invariant-loop-job g l = record {
   fits : AllZip Fits (take l.job-index l.job-items) l.outcomes;
   log : Grows IsTransfer (g.R.Remote.log l.fn.remote) (g.R.Remote.log l.remote);
+  explained : Carries (take l.job-index l.job-items) (g.R.Remote.log l.fn.remote) (g.R.Remote.log l.remote) l.outcomes;
+  undisturbed : Undisturbed (g.R.Remote.undisturbed l.fn.remote) (g.R.Remote.undisturbed l.remote) (g.R.Remote.log l.fn.remote) (g.R.Remote.log l.remote);
+  no_faults : g.R.Remote.undisturbed l.fn.remote ≡ true → g.R.Remote.faults l.remote ≡ g.R.Remote.faults l.fn.remote;
   faults_later : g.R.Remote.faults l.fn.remote ≤ g.R.Remote.faults l.remote;
   answers_later : g.R.Remote.answers l.fn.remote ≤ g.R.Remote.answers l.remote;
-  lost : list_any is_lost l.outcomes ≡ true → Rose (g.R.Remote.faults l.fn.remote) (g.R.Remote.faults l.remote);
+  lost : RoseBy (count_by is_lost l.outcomes) (g.R.Remote.faults l.fn.remote) (g.R.Remote.faults l.remote);
+  others : RoseBy (count_by (λ outcome. not (is_lost outcome)) l.outcomes) (g.R.Remote.answers l.fn.remote) (g.R.Remote.answers l.remote);
 }

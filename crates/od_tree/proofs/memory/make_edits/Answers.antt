@@ -1,8 +1,15 @@
 use Rattle.od_tree.proofs.Steps.{begins-more}
+use Rattle.od_tree.proofs.Tied.{tied-next, not-empty}
 use Rattle.od_tree.proofs.memory.make_edits.Goals as goal
 
-pub returns-in_err-make_due : goal.returns-in_err-make_due
-returns-in_err-make_due c = begins-more _ _ _ c.loop-kind.invariant c.make_due.ensures
+pub returns-in_err-make_due-clause-log : goal.returns-in_err-make_due-clause-log
+returns-in_err-make_due-clause-log c = begins-more _ _ _ c.loop-call.invariant.log c.make_due.ensures.log
 
-pub loop-kind-preserved : goal.loop-kind-preserved
-loop-kind-preserved c = begins-more _ _ _ c.loop-kind.invariant c.make_due.ensures
+pub loop-call-preserved : goal.loop-call-preserved
+loop-call-preserved c = record {
+  log = begins-more _ _ _ c.loop-call.invariant.log c.make_due.ensures.log;
+  tied =
+      tied-next c.args.edits.now c.loop-call.call-index c.loop-call-item.result c.args.folder.now c.loop-call.folder c.make_due.new.folder c.is_call.result c.args.kind c.args.number
+      c.loop-call-test.true c.loop-call-item.is c.is_call.ensures c.in_ok-make_due.ensures.due c.loop-call.invariant.tied;
+  alone = λ empty. absurd (not-empty c.args.edits.now c.loop-call.call-index c.loop-call-test.true empty);
+}

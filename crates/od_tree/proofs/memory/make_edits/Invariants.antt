@@ -1,5 +1,12 @@
+use Rattle.std.proofs.Common.{◌≡◌, true, drop}
 use Rattle.od_tree.specs.Doing.{Begins}
+use Rattle.od_tree.specs.Memory.{is_empty}
+use Rattle.od_tree.specs.Tied.{with_tied}
 use Rattle.od_tree.proofs.memory.make_edits.Given as goal
 
-abbrev pub invariant-loop-kind : goal.invariant-loop-kind
-invariant-loop-kind l = Begins l.fn.folder l.folder
+abbrev pub invariant-loop-call : goal.invariant-loop-call
+invariant-loop-call l = record {
+  log : Begins l.fn.folder l.folder;
+  tied : with_tied l.folder (drop l.call-index l.edits) l.kind l.number ≡ with_tied l.fn.folder l.edits l.kind l.number;
+  alone : is_empty l.edits ≡ true → l.folder ≡ l.fn.folder;
+}

@@ -1,0 +1,74 @@
+-- What this client's requests do to the world is what a drive's do that is told.
+use Rattle.std.proofs.Common.{◌≡◌, ℕ, ◌+◌, ◌-◌, ◌^◌, ◌≤◌, min, Bool, true, List, [], ◌∷◌, ◌++◌, Option, Some, None, Result, Ok, Err, IsErrOf, inl, refl, sym, ap, ◌∙◌, subst, arith}
+use Rattle.std.proofs.lemmas.List.{append-nil}
+use Rattle.gd_item.specs.Answers.{answer}
+use Rattle.gd_item.specs.Steps.{state_of}
+use Rattle.gd_item.specs.declared.reply.Reply.{Reply}
+use Rattle.gd_item.specs.declared.request.Request.{Request}
+use Rattle.gd_item.specs.declared.step.Step.{Step}
+use Rattle.gd_item.specs.declared.step.Step.TheVariants.{Ask}
+use Rattle.gd_item.specs.declared.step.Who.TheVariants.{Own}
+use Rattle.od_transfer.specs.Asking.{Asks, HasAskCause, Heard, Never, Unheard}
+use Rattle.od_transfer.specs.declared.remote.AskFault.{AskFault}
+use Rattle.od_transfer.specs.declared.remote.AskFault.TheVariants.{Failed, Memory}
+use Rattle.od_cli.specs.Worlds.{WorldValue, IsOwnReply, heard, unheard}
+
+-- a reply
+told-heard : (before after : WorldValue) (request : Request) (given : Reply) (old : List Step) → Some before.log ≡ Some old → IsOwnReply (state_of before.log) request given → after ≡ heard before request
+    → Heard Never request old (Some after.log) given
+told-heard before after request given old told own is =
+    let same : before.log ≡ old ++ [] = (let log : before.log ≡ old = cc in log) ∙ sym (append-nil old) in
+    record {
+      part = [];
+      such = tt;
+      served = true;
+      size = own.size;
+      grown = ap (λ (w : WorldValue). Some w.log) is ∙ ap (λ (l : List Step). Some (l ++ Ask Own request true true ∷ [])) same;
+      reply_is = own.reply_is ∙ ap (λ (l : List Step). answer (state_of l) own.size request) same;
+    }
+
+pub asks-ok : (before after : WorldValue) (request : Request) (given : Reply) → IsOwnReply (state_of before.log) request given → after ≡ heard before request → Asks request (Some before.log) (Some after.log) (Ok given)
+asks-ok before after request given own is = record { ok = λ old told. told-heard before after request given old told own is; err = tt }
+
+pub cause-ok : (before after : WorldValue) (request : Request) (given : Reply) → after ≡ heard before request → before.faults ≤ after.faults → before.answers ≤ after.answers
+    → HasAskCause before.faults after.faults before.answers after.answers before.in_row after.in_row (Ok given)
+cause-ok before after request given is faults answers =
+    let counted : after.answers ≡ min (before.answers + 1) (2 ^ 64 - 1) = ap (λ (w : WorldValue). w.answers) is in
+    record {
+      faults_later = faults;
+      answers_later = answers;
+      failed = λ none. absurd (cc none);
+      answered = omega arith;
+      row_ended = ap (λ (w : WorldValue). w.in_row) is;
+      row_rose = λ none. absurd (cc none);
+    }
+
+-- no reply
+kept-log : (before after : WorldValue) (fault : AskFault) → (IsErrOf {T = Reply} (Err fault) Failed → after ≡ unheard before) → (IsErrOf {T = Reply} (Err fault) Memory → after ≡ before) → after.log ≡ before.log
+kept-log before after Failed failed memory = ap (λ (w : WorldValue). w.log) (failed refl)
+kept-log before after Memory failed memory = ap (λ (w : WorldValue). w.log) (memory refl)
+
+told-unheard : (before after : WorldValue) (request : Request) (old : List Step) → Some before.log ≡ Some old → after.log ≡ before.log → Unheard request old (Some after.log)
+told-unheard before after request old told kept = record {
+  others = [];
+  by_others = tt;
+  grown = inl (ap (λ (l : List Step). Some l) (kept ∙ (let log : before.log ≡ old = cc in log) ∙ sym (append-nil old)));
+}
+
+pub asks-err : (before after : WorldValue) (request : Request) (fault : AskFault) → (IsErrOf {T = Reply} (Err fault) Failed → after ≡ unheard before) → (IsErrOf {T = Reply} (Err fault) Memory → after ≡ before)
+    → Asks request (Some before.log) (Some after.log) (Err fault)
+asks-err before after request fault failed memory = record { ok = tt; err = λ old told. told-unheard before after request old told (kept-log before after fault failed memory) }
+
+rose : (before after : WorldValue) → after ≡ unheard before → min (before.faults + 1) (2 ^ 64 - 1) ≤ after.faults
+rose before after is = let counted : after.faults ≡ min (before.faults + 1) (2 ^ 64 - 1) = ap (λ (w : WorldValue). w.faults) is in omega arith
+
+pub cause-err : (before after : WorldValue) (fault : AskFault) → (IsErrOf {T = Reply} (Err fault) Failed → after ≡ unheard before) → before.faults ≤ after.faults → before.answers ≤ after.answers
+    → HasAskCause before.faults after.faults before.answers after.answers before.in_row after.in_row (Err fault)
+cause-err before after fault failed faults answers = record {
+  faults_later = faults;
+  answers_later = answers;
+  failed = λ is. rose before after (failed is);
+  answered = tt;
+  row_ended = tt;
+  row_rose = λ is. ap (λ (w : WorldValue). w.in_row) (failed is);
+}

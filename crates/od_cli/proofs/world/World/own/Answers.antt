@@ -1,0 +1,34 @@
+use Rattle.std.proofs.Common.{◌≡◌, false, sym, ◌∙◌, subst}
+use Rattle.gd_item.specs.Steps.{state_of}
+use Rattle.od_transfer.specs.Undisturbed.{is_servable}
+use Rattle.od_cli.specs.Worlds.{WorldValue, IsOwnReply}
+use Rattle.od_cli.proofs.Worlds.{after-want, after-no-page, heard-is, not-servable, replied, unheard-is}
+use Rattle.od_cli.proofs.world.World.own.Goals as goal
+
+pub invariant_of-self-then-is_want_of_memory : goal.invariant_of-self-then-is_want_of_memory
+invariant_of-self-then-is_want_of_memory c =
+    after-want c.self.inside.drive c.handle-reply.new.self c.self.inside.log.items c.reserve.new.self.items c.handle-reply.result c.self.invariant c.handle-reply.ensures.refusal (sym c.is_want_of_memory.ensures ∙ c.if-is_want_of_memory.true) c.reserve.ensures.items
+
+pub invariant_of-self-then-is_no_page : goal.invariant_of-self-then-is_no_page
+invariant_of-self-then-is_no_page c =
+    after-no-page c.self.inside.drive c.handle-reply.new.self c.self.inside.log.items c.reserve.new.self.items c.args.request.now c.handle-reply.result c.self.invariant c.handle-reply.ensures.refusal (sym c.is_no_page.ensures ∙ c.if-is_no_page.true) c.reserve.ensures.items
+
+pub returns-then-is_no_page-clause-failed : goal.returns-then-is_no_page-clause-failed
+returns-then-is_no_page-clause-failed c =
+    λ failed.
+    let P : WorldValue → Type 0 = λ w. is_servable (state_of w.log) c.args.request.now ≡ false in (
+      subst P c.self.view_is
+          (not-servable c.self.inside.drive c.handle-reply.new.self c.self.inside.log.items c.args.request.now c.handle-reply.result c.self.invariant c.handle-reply.ensures.answer
+          (sym c.is_about_session.ensures ∙ c.if-is_about_session.false) (sym c.is_want_of_memory.ensures ∙ c.if-is_want_of_memory.false) (sym c.is_no_page.ensures ∙ c.if-is_no_page.true)),
+      unheard-is c.args.self.now c.fail-then-is_no_page.new.self c.self.inside.log.items c.reserve.new.self.items c.self.inside.faults c.self.inside.answers c.self.inside.in_row c.self.view_is c.reserve.ensures.items c.fail-then-is_no_page.ensures.counted,
+    )
+
+pub returns-clause-ok : goal.returns-clause-ok
+returns-clause-ok c =
+    let P : WorldValue → Type 0 = λ w. IsOwnReply (state_of w.log) c.args.request.now c.handle-reply.result in (
+      subst P c.self.view_is
+          (replied c.self.inside.drive c.handle-reply.new.self c.self.inside.log.items c.args.request.now c.handle-reply.result c.self.invariant c.handle-reply.ensures.answer
+          (sym c.is_about_session.ensures ∙ c.if-is_about_session.false) (sym c.is_want_of_memory.ensures ∙ c.if-is_want_of_memory.false) (sym c.is_no_page.ensures ∙ c.if-is_no_page.false)),
+      heard-is c.args.self.now c.self.inside.log.items c.reserve.new.self.items c.push_reserved.new.self.items c.self.inside.faults c.self.inside.answers c.saturating_add-self-inside.result c.self.inside.in_row c.in-Ok.sent c.args.request.now
+          c.self.view_is c.reserve.ensures.items c.push_reserved.ensures.items c.in-Ok.ensures.cases c.saturating_add-self-inside.ensures,
+    )

@@ -1,0 +1,198 @@
+ghost use Rattle.std.specs.Prelude.{◌≡◌, ◌≤◌, [], false, IfOk, IsErrOf};
+ghost use Rattle.gd_item.specs.Sound.{IsItemMap};
+ghost use Rattle.gd_item.specs.Steps.{state_of, held_by};
+ghost use Rattle.gd_api.specs.Drives.{is_about_session};
+ghost use Rattle.gd_api.specs.WholePage.{answer_now};
+ghost use Rattle.gd_store.specs.Stands.{Stands};
+ghost use Rattle.od_transfer.specs.Undisturbed.{is_servable};
+ghost use Rattle.od_cli.specs.Worlds.{page_size, heard, is_no_page, is_want_of_memory, unheard, with_other, IsOwnReply};
+
+use gd_api::Drive;
+use gd_item::{Reply, Request, Step, Who};
+use gd_names::{List, NoMemory};
+use gd_store::Store;
+use od_transfer::{AskFault, Carrier, Job, Outcome, Remote, carry_each};
+use std::alloc::Global;
+use std::marker::Model;
+
+/// How many items a list of the drive has at most.
+const PAGE_SIZE: u64 = 200;
+
+/// A drive in memory with its log, which other clients and this one ask. It has no reply for this client where the drive does
+/// not serve a token, and for requests about upload sessions.
+#[derive(Debug, Drop)]
+pub struct World {
+    drive: Drive,
+    log: Vec<Step>,
+    faults: u64,
+    answers: u64,
+    in_row: u64,
+}
+
+impl Model for World {
+    ghost use Rattle.od_cli.specs.Worlds.{WorldValue, IsDriveOf};
+
+    ghost Value = { WorldValue };
+
+    ghost view = { λ w. record { log = w.log.items; faults = w.faults; answers = w.answers; in_row = w.in_row } };
+
+    ghost invariant = { λ w. IsDriveOf w.drive w.log.items };
+}
+
+impl World {
+    /// A drive with its root alone.
+    pub fn new(alloc: Global) -> Result<World, NoMemory>
+        ensures { IfOk result (λ world. world ≡ record { log = []; faults = 0; answers = 0; in_row = 0 }) }
+    {
+        let drive = Drive::new(alloc, PAGE_SIZE)?;
+        Ok(World {
+            drive,
+            log: Vec::new(alloc),
+            faults: 0,
+            answers: 0,
+            in_row: 0,
+        })
+    }
+
+    /// The store of the drive.
+    pub fn store(&self) -> &Store
+        ensures { Stands result.now (state_of self.now.log).effects }
+    {
+        self.drive.store()
+    }
+
+    /// The drive's log.
+    pub fn log(&self) -> &[Step]
+        ensures { result.now ≡ self.now.log }
+    {
+        self.log.as_slice()
+    }
+
+    /// Another client asks the drive.
+    pub fn other(&mut self, request: Request) -> Result<Reply, NoMemory>
+        requires { is_about_session request ≡ false }
+        ensures reply { IfOk result (λ reply. reply ≡ answer_now (state_of self.old.log) page_size request) }
+        ensures log { IfOk result (λ reply. self.new ≡ record self.old { log = with_other self.old.log request }) }
+        ensures sound { IfOk result (λ reply. IsItemMap (held_by self.old.log)) }
+    {
+        self.log.reserve(1)?;
+        let reply = self.drive.handle(&request);
+        if is_want_of_memory(&reply) {
+            return Err(NoMemory);
+        }
+        self.log.push_reserved(Step::Ask {
+            who: Who::Other,
+            request,
+            served: true,
+            heard: true,
+        });
+        Ok(reply)
+    }
+
+    /// Counts a request that has no reply.
+    fn fail(&mut self) -> AskFault
+        ensures fault { result ≡ AskFault.Failed }
+        ensures counted { self.new ≡ unheard self.old }
+        ensures later { self.old.faults ≤ self.new.faults }
+    {
+        self.faults = self.faults.saturating_add(1);
+        self.in_row = self.in_row.saturating_add(1);
+        AskFault::Failed
+    }
+
+    /// This client asks the drive.
+    fn own(&mut self, request: &Request) -> Result<Reply, AskFault>
+        ensures ok { IfOk result (λ reply. IsOwnReply (state_of self.old.log) request.now reply × (self.new ≡ heard self.old request.now)) }
+        ensures failed { IsErrOf result AskFault.Failed → (is_servable (state_of self.old.log) request.now ≡ false) × (self.new ≡ unheard self.old) }
+        ensures memory { IsErrOf result AskFault.Memory → self.new ≡ self.old }
+        ensures faults { self.old.faults ≤ self.new.faults }
+        ensures answers { self.old.answers ≤ self.new.answers }
+    {
+        if is_about_session(request) {
+            return Err(self.fail());
+        }
+        let Ok(sent) = request.clone() else {
+            return Err(AskFault::Memory);
+        };
+        match self.log.reserve(1) {
+            Ok(()) => {}
+            Err(_) => return Err(AskFault::Memory),
+        }
+        let reply = self.drive.handle(request);
+        if is_want_of_memory(&reply) {
+            return Err(AskFault::Memory);
+        }
+        if is_no_page(request, &reply) {
+            return Err(self.fail());
+        }
+        self.log.push_reserved(Step::Ask {
+            who: Who::Own,
+            request: sent,
+            served: true,
+            heard: true,
+        });
+        self.answers = self.answers.saturating_add(1);
+        self.in_row = 0;
+        Ok(reply)
+    }
+}
+
+/// Whether a request is one about an upload session.
+fn is_about_session(request: &Request) -> bool
+    ensures { result ≡ is_about_session request.now }
+{
+    match request {
+        Request::OpenSession { .. } => true,
+        Request::Fragment { .. } => true,
+        Request::SessionStatus { .. } => true,
+        Request::CancelSession { .. } => true,
+        _ => false,
+    }
+}
+
+/// Whether a reply says that memory is wanting.
+fn is_want_of_memory(reply: &Reply) -> bool
+    ensures { result ≡ is_want_of_memory reply.now }
+{
+    match reply {
+        Reply::Refused { status, code: _ } => *status == 503,
+        _ => false,
+    }
+}
+
+/// Whether a request asks for changes, and the reply is a refusal.
+fn is_no_page(request: &Request, reply: &Reply) -> bool
+    ensures { result ≡ is_no_page request.now reply.now }
+{
+    match request {
+        Request::Delta { token: _ } => matches!(reply, Reply::Refused { .. }),
+        _ => false,
+    }
+}
+
+impl Remote for World {
+    ghost use Rattle.std.specs.Prelude.{Some, true};
+
+    ghost log = { λ w. Some w.log };
+
+    ghost faults = { λ w. w.faults };
+
+    ghost answers = { λ w. w.answers };
+
+    ghost in_row = { λ w. w.in_row };
+
+    ghost undisturbed = { λ w. true };
+
+    fn ask(&mut self, _alloc: Global, request: &Request) -> Result<Reply, AskFault> {
+        match self.own(request) {
+            Ok(reply) => Ok(reply),
+            Err(fault) => Err(fault),
+        }
+    }
+}
+
+impl Carrier for World {
+    fn carry(&mut self, alloc: Global, jobs: &List<Job>) -> Result<List<Outcome>, NoMemory> {
+        carry_each(self, alloc, jobs)
+    }
+}

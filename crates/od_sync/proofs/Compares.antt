@@ -1,0 +1,157 @@
+-- What a look at both sides says of the folder's tree and of the drive's.
+use Rattle.std.proofs.Common.{◌≡◌, ℕ, ◌+◌, Bool, true, false, cond, ◌||◌, List, [], ◌∷◌, ◌++◌, map, is_none, Option, refl, ap, sym, subst, ◌∙◌}
+use Rattle.std.proofs.lemmas.List.{append-nil}
+use Rattle.std.specs.List.{AllByRecursion, list_any}
+use Rattle.gd_item.specs.Records.{records_of}
+use Rattle.gd_item.specs.Sessions.{held}
+use Rattle.gd_item.specs.Steps.{state_of, held_by, accepted_by}
+use Rattle.gd_item.specs.Trees.{tree_of}
+use Rattle.gd_item.specs.declared.item.Item.{Item}
+use Rattle.gd_item.specs.declared.request.Request.TheVariants.{Delta}
+use Rattle.gd_item.specs.declared.step.Step.{Step}
+use Rattle.gd_item.specs.declared.step.Step.TheVariants.{Ask}
+use Rattle.gd_item.specs.declared.step.Who.TheVariants.{Own}
+use Rattle.od_keeper.specs.Sound.{uncounted}
+use Rattle.od_mirror.specs.Pulled.{paths_of}
+use Rattle.od_transfer.specs.Alone.{AreOwnServed}
+use Rattle.od_transfer.specs.Asking.{OwnAre}
+use Rattle.od_tree.specs.Calls.{edited}
+use Rattle.od_tree.specs.Collisions.{NoCollision}
+use Rattle.od_tree.specs.Local.{Local, after_step, after_steps, empty_folder, local_of, local_tree, op_refusal, tree_of_spots}
+use Rattle.od_tree.specs.Undisturbed.{IsOp, NoUser}
+use Rattle.od_tree.specs.declared.edit.UserEdit.{UserEdit}
+use Rattle.od_tree.specs.declared.step.LocalStep.{LocalStep}
+use Rattle.od_tree.specs.declared.step.LocalStep.TheVariants.{User, Op}
+use Rattle.od_tree.specs.declared.step.TreeOp.TheVariants as op
+use Rattle.od_sync.specs.Comparing.{is_same, scanned}
+use Rattle.od_sync.specs.Scans.{IsLook, is_root_listing}
+use Rattle.od_sync.specs.Deltas.{IsSpent}
+use Rattle.od_sync.specs.Syncs.{AreSame, after_last, before_last, is_own_delta, since_listed}
+use Rattle.od_sync.specs.declared.scanning.Node.{Node}
+use Rattle.od_sync.proofs.OwnRequests.{own_requests_keep}
+use Rattle.od_sync.proofs.SameTrees.{same-as-drive, drive-as-same}
+use Rattle.od_sync.proofs.Growth.{answered, asked-spent, each-first, each-second, scan-steps}
+use Rattle.od_sync.proofs.ServedTokens.{is-served}
+
+-- ---- what comes before the last such step, and after it
+or-later : (a b : Bool) → b ≡ true → (a || b) ≡ true
+or-later true b is = refl
+or-later false b is = is
+
+any-later : {X : Type 0} (is : X → Bool) (xs : List X) (x : X) (ys : List X) → is x ≡ true → list_any is (xs ++ x ∷ ys) ≡ true
+any-later is [] x ys such = ap (λ b. b || list_any is ys) such
+any-later is (y ∷ xs) x ys such = or-later (is y) (list_any is (xs ++ x ∷ ys)) (any-later is xs x ys such)
+
+before-cond : {X : Type 0} (b : Bool) (x : X) (xs : List X) → b ≡ true → cond b (x ∷ xs) [] ≡ x ∷ xs
+before-cond true x xs is = refl
+before-cond false x xs is = absurd (cc is)
+
+pub before-last : {X : Type 0} (is : X → Bool) (xs : List X) (x : X) → is x ≡ true → before_last is (xs ++ x ∷ []) ≡ xs
+before-last is [] x such = refl
+before-last is (y ∷ xs) x such =
+    before-cond (list_any is (xs ++ x ∷ [])) y (before_last is (xs ++ x ∷ [])) (any-later is xs x [] such) ∙ ap (λ zs. y ∷ zs) (before-last is xs x such)
+
+after-cond : {X : Type 0} (b : Bool) (xs ys : List X) → b ≡ true → cond b xs ys ≡ xs
+after-cond true xs ys is = refl
+after-cond false xs ys is = absurd (cc is)
+
+none-cond : {X : Type 0} (b : Bool) (xs ys : List X) → b ≡ false → cond b xs ys ≡ ys
+none-cond true xs ys is = absurd (cc is)
+none-cond false xs ys is = refl
+
+pub after-last : {X : Type 0} (is : X → Bool) (xs : List X) (x : X) (ys : List X) → is x ≡ true → list_any is ys ≡ false → after_last is (xs ++ x ∷ ys) ≡ ys
+after-last is [] x ys such none = none-cond (list_any is ys) (after_last is ys) ys none
+after-last is (y ∷ xs) x ys such none =
+    after-cond (list_any is (xs ++ x ∷ ys)) (after_last is (xs ++ x ∷ ys)) (xs ++ x ∷ ys) (any-later is xs x ys such) ∙ after-last is xs x ys such none
+
+-- ---- looks change nothing where the user leaves the folder alone
+same-either : (b : Bool) (local : Local) → cond b local local ≡ local
+same-either true local = refl
+same-either false local = refl
+
+one-look : (n : ℕ) (local : Local) (step : LocalStep) → IsLook step → IsOp step → after_step n local step ≡ local
+one-look n local (User edit) look alone = absurd alone
+one-look n local (Op (op.List at)) look alone = same-either (is_none (op_refusal local (op.List at))) local
+one-look n local (Op (op.Read at)) look alone = same-either (is_none (op_refusal local (op.Read at))) local
+one-look n local (Op (op.MakeDir at)) look alone = absurd look
+one-look n local (Op (op.RemoveDir at)) look alone = absurd look
+one-look n local (Op (op.Place at bytes)) look alone = absurd look
+one-look n local (Op (op.Rename from to)) look alone = absurd look
+one-look n local (Op (op.SetAside at)) look alone = absurd look
+one-look n local (Op (op.ReadAside aside)) look alone = absurd look
+one-look n local (Op (op.PutBack aside to)) look alone = absurd look
+one-look n local (Op (op.Discard aside)) look alone = absurd look
+one-look n local (Op op.Asides) look alone = absurd look
+
+looks-keep-from : (n : ℕ) (local : Local) (old part : List LocalStep) → AllByRecursion IsLook part → NoUser part → after_steps n local (old ++ part) ≡ after_steps n local old
+looks-keep-from n local [] [] looks alone = refl
+looks-keep-from n local [] (step ∷ part) looks alone =
+    looks-keep-from (n + 1) (after_step n local step) [] part looks.1 alone.1 ∙ one-look n local step looks.0 alone.0
+looks-keep-from n local (step ∷ old) part looks alone = looks-keep-from (n + 1) (after_step n local step) old part looks alone
+
+pub looks-keep : (old part : List LocalStep) → AllByRecursion IsLook part → NoUser part → local_of (old ++ part) ≡ local_of old
+looks-keep old part looks alone = looks-keep-from 0 empty_folder old part looks alone
+
+-- the folder after a scan without edits of the user
+no-edits : (edits : List UserEdit) (more : List LocalStep) → NoUser (map (λ (edit : UserEdit). User edit) edits ++ more) → edits ≡ []
+no-edits [] more alone = refl
+no-edits (edit ∷ edits) more alone = absurd alone.0
+
+pub edited-none : (local : List LocalStep) (edits : List UserEdit) (rest : List LocalStep) → NoUser (scan-steps edits rest) → edited local edits ≡ local
+edited-none local edits rest alone =
+    ap (λ (es : List UserEdit). edited local es) (no-edits edits (Op (op.List []) ∷ rest) alone) ∙ append-nil local
+
+pub rest-alone : (edits : List UserEdit) (rest : List LocalStep) → NoUser (scan-steps edits rest) → NoUser rest
+rest-alone edits rest alone = (each-second IsOp (map (λ (edit : UserEdit). User edit) edits) (Op (op.List []) ∷ rest) alone).1
+
+-- ---- the requests of a look keep what the drive holds
+pub drive-kept : (token : Option (List ℕ)) (drive spent : List Step) → AreOwnServed (spent ++ answered token) → OwnAre (IsSpent (Delta token)) spent → held_by (drive ++ spent) ≡ held_by drive
+drive-kept token drive spent own such =
+    ap held (own_requests_keep drive spent (asked-spent token spent such) (each-first is-served spent (answered token) own))
+
+pub answered-keeps : (token : Option (List ℕ)) (log : List Step) → state_of (log ++ answered token) ≡ state_of log
+answered-keeps token log = own_requests_keep log (answered token) (refl, tt) (refl, tt)
+
+-- ---- what a look says, of the logs right before it was answered and right before the root was listed
+pub compared-same : (local rest : List LocalStep) (drive : List Step) (token : Option (List ℕ)) (items : List Item) (found : List (List (List ℕ) × Node)) (remote : List (List (List ℕ) × Item))
+    → AllByRecursion IsLook rest → list_any is_root_listing rest ≡ false → map uncounted items ≡ map uncounted (records_of (held_by drive)) → remote ≡ paths_of items
+    → (NoUser rest → found ≡ scanned (local_tree local)) → is_same found remote ≡ true
+    → NoCollision (local ++ Op (op.List []) ∷ rest) (accepted_by (drive ++ answered token)) → NoUser (since_listed (local ++ Op (op.List []) ∷ rest))
+    → AreSame (local ++ Op (op.List []) ∷ rest) (drive ++ answered token)
+compared-same local rest drive token items found remote looks once mirrors remote_is found_is same apart alone =
+    let rest_alone : NoUser rest = subst NoUser (after-last is_root_listing local (Op (op.List [])) rest refl once) alone in
+    let shown : is_same (scanned (local_tree local)) (paths_of items) ≡ true =
+    ap (λ (l : List (List (List ℕ) × Node)). is_same l (paths_of items)) (sym (found_is rest_alone)) ∙ ap (λ (r : List (List (List ℕ) × Item)). is_same found r) (sym remote_is) ∙ same in
+    ap (λ (l : Local). tree_of_spots l.spots) (looks-keep local (Op (op.List []) ∷ rest) (tt, looks) (tt, rest_alone))
+    ∙ same-as-drive local (Op (op.List []) ∷ rest) drive (answered token) items mirrors apart shown
+    ∙ ap (λ (log : List Step). tree_of (held_by log)) (sym (before-last is_own_delta drive (Ask Own (Delta token) true true) refl))
+
+-- the trees are unlike where the entries are
+unlike-trees : (local : List LocalStep) (drive : List Step) (items : List Item) (found : List (List (List ℕ) × Node)) (remote : List (List (List ℕ) × Item))
+    → map uncounted items ≡ map uncounted (records_of (held_by drive)) → remote ≡ paths_of items → found ≡ scanned (local_tree local) → is_same found remote ≡ false
+    → local_tree local ≡ tree_of (held_by drive) → ⊥
+unlike-trees local drive items found remote mirrors remote_is found_is unlike same =
+    let shown : is_same found remote ≡ true =
+    ap (λ (l : List (List (List ℕ) × Node)). is_same l remote) found_is ∙ ap (λ (r : List (List (List ℕ) × Item)). is_same (scanned (local_tree local)) r) remote_is
+    ∙ drive-as-same local drive items mirrors same in
+    cc (shown, unlike)
+
+pub compared-unlike : (local rest : List LocalStep) (drive : List Step) (token : Option (List ℕ)) (items : List Item) (found : List (List (List ℕ) × Node)) (remote : List (List (List ℕ) × Item))
+    → AllByRecursion IsLook rest → list_any is_root_listing rest ≡ false → map uncounted items ≡ map uncounted (records_of (held_by drive)) → remote ≡ paths_of items
+    → (NoUser rest → found ≡ scanned (local_tree local)) → is_same found remote ≡ false → NoUser (since_listed (local ++ Op (op.List []) ∷ rest))
+    → AreSame (local ++ Op (op.List []) ∷ rest) (drive ++ answered token) → ⊥
+compared-unlike local rest drive token items found remote looks once mirrors remote_is found_is unlike alone same =
+    let rest_alone : NoUser rest = subst NoUser (after-last is_root_listing local (Op (op.List [])) rest refl once) alone in
+    unlike-trees local drive items found remote mirrors remote_is (found_is rest_alone) unlike
+    (ap (λ (l : Local). tree_of_spots l.spots) (sym (looks-keep local (Op (op.List []) ∷ rest) (tt, looks) (tt, rest_alone)))
+    ∙ same
+    ∙ ap (λ (log : List Step). tree_of (held_by log)) (before-last is_own_delta drive (Ask Own (Delta token) true true) refl))
+
+-- where no one else does anything, they are unlike already where the look begins
+pub unlike-before : (local : List LocalStep) (edits : List UserEdit) (rest : List LocalStep) (drive spent : List Step) (token : Option (List ℕ)) (items : List Item) (found : List (List (List ℕ) × Node))
+    (remote : List (List (List ℕ) × Item)) → OwnAre (IsSpent (Delta token)) spent → map uncounted items ≡ map uncounted (records_of (held_by (drive ++ spent))) → remote ≡ paths_of items
+    → (NoUser rest → found ≡ scanned (local_tree (edited local edits))) → is_same found remote ≡ false → AreOwnServed (spent ++ answered token) → NoUser (scan-steps edits rest)
+    → local_tree local ≡ tree_of (held_by drive) → ⊥
+unlike-before local edits rest drive spent token items found remote such mirrors remote_is found_is unlike own alone same =
+    unlike-trees (edited local edits) (drive ++ spent) items found remote mirrors remote_is (found_is (rest-alone edits rest alone)) unlike
+    (ap local_tree (edited-none local edits rest alone) ∙ same ∙ ap tree_of (sym (drive-kept token drive spent own such)))

@@ -1,0 +1,37 @@
+-- A folder compares as the same with the items that were pulled of a drive exactly where its tree is the drive's.
+use Rattle.std.proofs.Common.{◌≡◌, true, List, ◌++◌, map, ap, sym, ◌∙◌}
+use Rattle.gd_item.specs.Records.{records_of}
+use Rattle.gd_item.specs.Steps.{held_by, accepted_by}
+use Rattle.gd_item.specs.Trees.{tree_of, in_order}
+use Rattle.gd_item.specs.declared.item.Item.{Item}
+use Rattle.gd_item.specs.declared.step.Step.{Step}
+use Rattle.gd_store.proofs.Logs.{sound-log}
+use Rattle.od_keeper.specs.Sound.{uncounted}
+use Rattle.od_mirror.specs.Drive.{placed_items}
+use Rattle.od_mirror.specs.Pulled.{paths_of}
+use Rattle.od_mirror.proofs.Standing.{paths-of-placed, tree-of-placed}
+use Rattle.od_tree.specs.Collisions.{contents, NoCollision}
+use Rattle.od_tree.specs.Local.{local_tree}
+use Rattle.od_tree.specs.declared.step.LocalStep.{LocalStep}
+use Rattle.od_sync.specs.Comparing.{is_same, scanned}
+use Rattle.od_sync.proofs.Compared.{bytes_of, same-trees, same-entries}
+use Rattle.od_sync.proofs.Contents.{folder-among, drive-among, apart-before}
+use Rattle.od_sync.proofs.Uncounted.{same-uncounted}
+
+pub same-as-drive : (local more : List LocalStep) (drive later : List Step) (items : List Item) → map uncounted items ≡ map uncounted (records_of (held_by drive))
+    → NoCollision (local ++ more) (accepted_by (drive ++ later)) → is_same (scanned (local_tree local)) (paths_of items) ≡ true → local_tree local ≡ tree_of (held_by drive)
+same-as-drive local more drive later items pulled apart is =
+    same-trees (contents local (accepted_by drive)) (held_by drive).items (local_tree local) (in_order (placed_items (held_by drive)))
+    (apart-before local more drive later apart) (folder-among local (accepted_by drive)) (drive-among local drive)
+    (ap (λ remote. is_same (scanned (local_tree local)) remote) (sym (paths-of-placed (held_by drive) (sound-log drive)))
+    ∙ sym (same-uncounted (scanned (local_tree local)) items (records_of (held_by drive)) pulled)
+    ∙ is)
+    ∙ sym (tree-of-placed (held_by drive))
+
+pub drive-as-same : (local : List LocalStep) (drive : List Step) (items : List Item) → map uncounted items ≡ map uncounted (records_of (held_by drive))
+    → local_tree local ≡ tree_of (held_by drive) → is_same (scanned (local_tree local)) (paths_of items) ≡ true
+drive-as-same local drive items pulled same =
+    same-uncounted (scanned (local_tree local)) items (records_of (held_by drive)) pulled
+    ∙ ap (λ tree. is_same (scanned tree) (paths_of (records_of (held_by drive)))) (same ∙ tree-of-placed (held_by drive))
+    ∙ ap (λ remote. is_same (scanned (bytes_of (in_order (placed_items (held_by drive))))) remote) (paths-of-placed (held_by drive) (sound-log drive))
+    ∙ same-entries (held_by drive).items (in_order (placed_items (held_by drive)))

@@ -1,0 +1,40 @@
+-- The edits and the failures of a folder in memory are tied to its calls: to a kind of call, and to a number among the
+-- calls of that kind, from 1.
+use Rattle.std.specs.Prelude.{ℕ, Bool, ◌&&◌, cond, List, [], ◌∷◌, ◌++◌, nat_eq}
+use Rattle.std.specs.List.{list_any}
+use Rattle.od_tree.specs.Local.{local_of, has_place}
+use Rattle.od_tree.specs.declared.call.TreeCall.{TreeCall}
+use Rattle.od_tree.specs.declared.call.TreeCall.TheVariants as call
+use Rattle.od_tree.specs.declared.edit.UserEdit.{UserEdit}
+use Rattle.od_tree.specs.declared.step.LocalStep.{LocalStep}
+use Rattle.od_tree.specs.declared.step.LocalStep.TheVariants.{User}
+
+-- a number of its own for each kind of call
+abbrev pub kind_of : TreeCall → ℕ
+kind_of call.List = 0
+kind_of call.Read = 1
+kind_of call.MakeDir = 2
+kind_of call.RemoveDir = 3
+kind_of call.Place = 4
+kind_of call.Rename = 5
+kind_of call.SetAside = 6
+kind_of call.ReadAside = 7
+kind_of call.PutBack = 8
+kind_of call.Discard = 9
+kind_of call.Asides = 10
+
+-- whether this is the call of a kind and a number
+abbrev pub is_call : TreeCall → ℕ → ℕ → ℕ → Bool
+is_call tied at kind number = nat_eq (kind_of tied) kind && nat_eq at number
+
+-- whether a call is listed as failing
+abbrev pub is_listed : List (TreeCall × ℕ) → ℕ → ℕ → Bool
+is_listed failing kind number = list_any (λ (listed : TreeCall × ℕ). is_call listed.0 listed.1 kind number) failing
+
+-- the log with an edit that is due and has a place, and with those that are tied to a call
+abbrev pub with_due : List LocalStep → Bool → UserEdit → List LocalStep
+with_due log due edit = cond (due && has_place (local_of log) edit) (log ++ User edit ∷ []) log
+
+abbrev pub with_tied : List LocalStep → List (TreeCall × ℕ × UserEdit) → ℕ → ℕ → List LocalStep
+with_tied log [] kind number = log
+with_tied log (tied ∷ edits) kind number = with_tied (with_due log (is_call tied.0 tied.1 kind number) tied.2) edits kind number
