@@ -1,6 +1,7 @@
 pub mod Asking
 pub mod Ends
 pub mod Leading
+pub mod Listed
 pub mod Moves
 pub mod Numbers
 pub mod Playing

@@ -1,5 +1,5 @@
 -- The request of a move, where the folder above the new path is there.
-use Rattle.std.proofs.Common.{◌≡◌, ℕ, List, [], ◌∷◌, Option, Some, None, sym, ap, ◌∙◌}
+use Rattle.std.proofs.Common.{◌≡◌, ℕ, List, Option, Some, None, sym, ap, ◌∙◌}
 use Rattle.std.specs.Option.{option_map}
 use Rattle.gd_item.specs.Ids.{item_id}
 use Rattle.gd_item.specs.Inventory.{Inventory, Effect, inventory}
@@ -11,7 +11,6 @@ use Rattle.gd_item.specs.Trees.{nodes_of}
 use Rattle.gd_item.specs.declared.condition.Condition.TheVariants.{Free}
 use Rattle.gd_item.specs.declared.id.ItemId.{ItemId}
 use Rattle.gd_item.specs.declared.request.Address.TheVariants.{ByPath}
-use Rattle.gd_item.specs.declared.request.Request.{Request}
 use Rattle.gd_item.specs.declared.request.Request.TheVariants.{Patch}
 use Rattle.gd_item.specs.declared.step.Step.{Step}
 use Rattle.gd_store.specs.Stands as store

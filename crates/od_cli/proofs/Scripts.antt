@@ -1,5 +1,5 @@
 -- The lines of a script that were read, before those that follow.
-use Rattle.std.proofs.Common.{◌≡◌, ℕ, ◌+◌, ◌<◌, ◌≤◌, Bool, true, false, List, ◌∷◌, ◌++◌, length, drop, get_or, nat_lt, Option, Some, Result, Ok, Err, sym, refl, ap, ◌∙◌, arith}
+use Rattle.std.proofs.Common.{◌≡◌, ℕ, ◌+◌, ◌<◌, List, ◌∷◌, ◌++◌, length, drop, get_or, Option, Some, Result, Ok, Err, sym, refl, ap, ◌∙◌}
 use Rattle.std.proofs.lemmas.List.{append_assoc, drop_more}
 use Rattle.od_cli.specs.declared.line.Line.{Line}
 use Rattle.od_cli.specs.Script.{line_of, joined, script_from}

@@ -1,5 +1,5 @@
 -- What a drive's store shows of its items is their bytes.
-use Rattle.std.proofs.Common.{◌≡◌, ℕ, ◌+◌, ◌<◌, Bool, true, false, cond, nat_eq, List, [], ◌∷◌, ◌++◌, map, codes, length, Option, Some, None, refl, sym, ap, ◌∙◌, subst, eq-eqb, append_assoc, append-nil, arith}
+use Rattle.std.proofs.Common.{◌≡◌, ℕ, ◌+◌, ◌<◌, false, cond, nat_eq, List, [], ◌∷◌, ◌++◌, codes, length, Option, Some, None, refl, sym, ap, ◌∙◌, eq-eqb, append_assoc, append-nil, arith}
 use Rattle.std.specs.Fmt.{decimal}
 use Rattle.std.specs.List.{AllByRecursion, AllPairs, flat_map}
 use Rattle.std.specs.Map.{values_of}
@@ -7,11 +7,10 @@ use Rattle.std.proofs.lemmas.Bool.Decides.{nat_tests}
 use Rattle.gd_item.specs.Inventory.{Inventory, Effect, inventory, live_at}
 use Rattle.gd_item.specs.Nodes.{Node, path_of}
 use Rattle.gd_item.specs.Records.{record_of, kind_at}
-use Rattle.gd_item.specs.Sessions.{held}
 use Rattle.gd_item.specs.Sound.{IsItemMap}
 use Rattle.gd_item.specs.Steps.{state_of}
 use Rattle.gd_item.specs.Trees.{tree_of, in_order, placed, at_path, nodes_of}
-use Rattle.gd_item.specs.Versions.{version_at, content_at, content_of, item_version, file_version, replaced_bytes}
+use Rattle.gd_item.specs.Versions.{content_of, item_version, file_version, replaced_bytes}
 use Rattle.gd_item.specs.declared.item.Item.{Item}
 use Rattle.gd_item.specs.declared.live.LiveItem.{LiveItem}
 use Rattle.gd_item.specs.declared.step.Step.{Step}
@@ -35,7 +34,7 @@ differs : (a b : ℕ) → a < b → nat_eq a b ≡ false
 differs a b lt = grind (arith, nat_tests)
 
 -- the item of a number is the one that has it
-own : (items : List LiveItem) → AllPairs (λ (x y : LiveItem). x.number < y.number) items → AllByRecursion (λ (item : LiveItem). live_at item.number items ≡ Some item) items
+pub own : (items : List LiveItem) → AllPairs (λ (x y : LiveItem). x.number < y.number) items → AllByRecursion (λ (item : LiveItem). live_at item.number items ≡ Some item) items
 own [] pairs = tt
 own (item ∷ items) pairs = (
   ap (λ b. cond b (Some item) (live_at item.number items)) (eq-eqb item.number item.number refl),

@@ -1,7 +1,7 @@
 -- The first word of a text, and its first space.
-use Rattle.std.proofs.Common.{◌≡◌, ℕ, zero, suc, ◌+◌, ◌<◌, ◌≤◌, Bool, true, false, List, [], ◌∷◌, length, get_or, take, drop, nat_eq, nat_lt, Option, Some, None, sym, refl, ap, ◌∙◌, arith, add-one}
+use Rattle.std.proofs.Common.{◌≡◌, ℕ, zero, suc, ◌+◌, ◌<◌, ◌≤◌, Bool, true, false, List, [], ◌∷◌, length, get_or, take, drop, nat_eq, nat_lt, Some, None, sym, refl, ap, ◌∙◌, arith, add-one}
 use Rattle.std.specs.List.{position, position_or_len}
-use Rattle.std.proofs.lemmas.Bool.{cases_cond, cond-true, cond-false, ltb-false, false_from_ne_true}
+use Rattle.std.proofs.lemmas.Bool.{cond-true, cond-false, ltb-false, false_from_ne_true}
 use Rattle.std.proofs.lemmas.List.Quantifiers.{position-Some}
 use Rattle.std.proofs.lemmas.List.Sums.{fails_before_first}
 use Rattle.std.proofs.lemmas.Option.{none-some}

@@ -1,5 +1,5 @@
 -- A sync leads a run on.
-use Rattle.std.proofs.Common.{◌≡◌, ℕ, true, List, ◌++◌, Option, Some, refl, sym, ap, ◌∙◌, subst}
+use Rattle.std.proofs.Common.{◌≡◌, ℕ, true, List, ◌++◌, Option, Some, refl, ap, ◌∙◌, subst}
 use Rattle.std.proofs.lemmas.List.{append_cancel_left}
 use Rattle.gd_item.specs.declared.step.Step.{Step}
 use Rattle.od_keeper.specs.Memory as keeper
@@ -12,11 +12,11 @@ use Rattle.od_tree.specs.Undisturbed as tree_alone
 use Rattle.od_tree.specs.Undisturbed.{NoUser}
 use Rattle.od_tree.specs.declared.memory.MemoryTree.{MemoryTree}
 use Rattle.od_tree.specs.declared.step.LocalStep.{LocalStep}
-use Rattle.od_sync.specs.Ends.{Counts, HasCause, counts}
+use Rattle.od_sync.specs.Ends.{HasCause, counts}
 use Rattle.od_sync.specs.Syncs.{StartsServable, SyncsTo, SyncsTold}
 use Rattle.od_sync.specs.declared.ends.SyncEnd.{SyncEnd}
 use Rattle.od_sync.specs.declared.ends.SyncEnd.TheVariants as ends
-use Rattle.od_cli.specs.Runs.{Run, NoFaults, Synced, sync_text}
+use Rattle.od_cli.specs.Runs.{Run, Synced, sync_text}
 use Rattle.od_cli.specs.RunStates.{PlaysTo, StandsFor}
 use Rattle.od_cli.specs.Worlds.{WorldValue}
 use Rattle.od_cli.specs.declared.line.Line.TheVariants.{Sync}

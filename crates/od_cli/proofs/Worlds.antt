@@ -1,5 +1,5 @@
 -- What the world's drive replies to this client.
-use Rattle.std.proofs.Common.{◌≡◌, ◌⊎◌, ℕ, ◌+◌, ◌^◌, ◌<◌, min, Bool, true, false, not, ◌&&◌, ◌||◌, cond, nat_eq, nat_lt, max, ◌-◌, List, [], ◌∷◌, ◌++◌, length, codes, slice_index, Option, Some, None, inl, inr, refl, sym, ap, ◌∙◌, subst, arith}
+use Rattle.std.proofs.Common.{◌≡◌, ◌⊎◌, ℕ, ◌+◌, ◌^◌, min, Bool, true, false, not, ◌&&◌, ◌||◌, cond, nat_eq, nat_lt, max, ◌-◌, List, [], ◌∷◌, ◌++◌, length, codes, slice_index, Option, Some, None, inl, inr, refl, sym, ap, ◌∙◌, subst, arith}
 use Rattle.std.specs.Cmp.Lexicographic.{pointwise}
 use Rattle.std.specs.Map.{keys_of, values_of}
 use Rattle.std.proofs.lemmas.Bool.Decides.{nat_tests}
@@ -8,7 +8,7 @@ use Rattle.std.proofs.lemmas.Map.Entries.{length-values_of}
 use Rattle.gd_names.specs.Causes.{first_cause}
 use Rattle.gd_item.specs.Answers.{answer, about, answer_unless, content_reply, delta_reply, found_reply}
 use Rattle.gd_item.specs.Inventory.{Inventory, live_at}
-use Rattle.gd_item.specs.Pages.{Asked, Past, Latest, Bad, Lost, asked, asked_unless, asked_by_token, is_bad, page_link, page_past}
+use Rattle.gd_item.specs.Pages.{Past, Latest, Bad, Lost, asked, asked_unless, asked_by_token, is_bad, page_link, page_past}
 use Rattle.gd_item.specs.Records.{feed, first_of, last_of}
 use Rattle.gd_item.specs.Refused.{Refusal, refuse, refusal}
 use Rattle.gd_item.specs.Sessions.{State, held}
@@ -21,8 +21,6 @@ use Rattle.gd_item.specs.declared.id.ItemId.{ItemId}
 use Rattle.gd_item.specs.declared.item.Item.{Item}
 use Rattle.gd_item.specs.declared.request.Address.{Address}
 use Rattle.gd_item.specs.declared.live.LiveItem.{LiveItem}
-use Rattle.gd_item.specs.declared.reply.Page.{Page}
-use Rattle.gd_item.specs.declared.reply.PageLink.{PageLink}
 use Rattle.gd_item.specs.declared.reply.Reply.{Reply}
 use Rattle.gd_item.specs.declared.reply.Reply.TheVariants as reply
 use Rattle.gd_item.specs.declared.reply.Resync.TheVariants.{ApplyDifferences, UploadDifferences}
@@ -35,7 +33,7 @@ use Rattle.gd_item.specs.declared.step.Who.TheVariants.{Own}
 use Rattle.gd_item.specs.declared.token.Token.{Token}
 use Rattle.gd_api.specs.Drives.{DriveValue, Stands, Handles, is_about_session, is_refusal}
 use Rattle.gd_api.specs.WholePage.{answer_now, page_for_token, whole_delta, whole_page}
-use Rattle.od_transfer.specs.Asking.{may_answer, may_answer_content, may_answer_download, may_answer_delta}
+use Rattle.od_transfer.specs.Asking.{may_answer_content, may_answer_download, may_answer_delta}
 use Rattle.od_transfer.specs.Undisturbed.{is_page, is_servable}
 use Rattle.od_cli.specs.Worlds.{WorldValue, IsDriveOf, IsOwnReply, heard, is_no_page, is_want_of_memory, page_size, unheard}
 

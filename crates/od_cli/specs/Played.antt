@@ -1,6 +1,6 @@
 -- What a line of a script prints that is played on a drive: the refusals of other clients' calls, at each pull the drive's
 -- change number and the paths of its items with sizes and digests, and at `drive` the same with contents.
-use Rattle.std.specs.Prelude.{ℕ, Bool, true, ◌&&◌, cond, List, [], ◌∷◌, ◌++◌, length, replicate, codes, nat_le, Option, Some, None}
+use Rattle.std.specs.Prelude.{ℕ, true, ◌&&◌, cond, List, [], ◌∷◌, ◌++◌, length, replicate, codes, nat_le, Option, Some, None}
 use Rattle.std.specs.List.{flat_map, list_all}
 use Rattle.std.specs.Option.{option_map}
 use Rattle.std.specs.Fmt.{decimal}

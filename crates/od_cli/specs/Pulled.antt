@@ -1,16 +1,18 @@
 -- What items that were pulled print.
-use Rattle.std.specs.Prelude.{◌≡◌, ℕ, List, [], ◌++◌, codes, Option, None}
+use Rattle.std.specs.Prelude.{◌≡◌, ℕ, ◌<◌, List, [], ◌++◌, codes, Option, Some, None}
 use Rattle.std.specs.Fmt.{decimal}
+use Rattle.std.specs.List.{All}
 use Rattle.std.specs.Map.{values_of}
 use Rattle.hex.specs.Hex.{encode_lower}
 use Rattle.gd_names.specs.Paths.{path_text}
-use Rattle.gd_item.specs.Inventory.{Inventory}
-use Rattle.gd_item.specs.Records.{feed, removals}
+use Rattle.gd_item.specs.Inventory.{Inventory, live_at}
+use Rattle.gd_item.specs.Records.{feed, record_of, removals}
 use Rattle.gd_item.specs.Sound.{IsItemMap}
 use Rattle.gd_item.specs.Versions.{content_at, version_at}
 use Rattle.gd_item.specs.declared.item.Item.{Item}
 use Rattle.gd_item.specs.declared.item.Kind.{Kind}
 use Rattle.gd_item.specs.declared.item.Kind.TheVariants.{Folder, File, Deleted}
+use Rattle.gd_item.specs.declared.live.LiveItem.{LiveItem}
 use Rattle.gd_item.specs.declared.reply.Page.{Page}
 use Rattle.od_mirror.specs.Pulled.{taken_of}
 use Rattle.od_mirror.specs.declared.mirror.Taken.TheVariants.{Last}
@@ -45,3 +47,21 @@ shown_kind held number Deleted = None
 -- the line of a record with its content
 abbrev pub shown_line : Inventory → List (List ℕ) × Item → List ℕ
 shown_line held (path, item) = content_line (path, shown_kind held item.id.0 item.kind)
+
+-- the item is the record of one that lives on the drive
+pub record IsListed (held : Inventory) (item : Item) : Type 0 where
+  pub live : LiveItem
+  pub above : 1 < live.number
+  pub there : live_at live.number held.items ≡ Some live
+  pub item_is : item ≡ record_of held.items live
+
+abbrev pub AreListed : Inventory → List (List (List ℕ) × Item) → Type 0
+AreListed held entries = All (λ (entry : List (List ℕ) × Item). IsListed held entry.1) entries
+
+-- a file of the drive has this number
+pub record IsFileAt (held : Inventory) (number : ℕ) : Type 0 where
+  pub live : LiveItem
+  pub bytes : List ℕ
+  pub above : 1 < number
+  pub there : live_at number held.items ≡ Some live
+  pub bytes_are : live.bytes ≡ Some bytes

@@ -1,5 +1,5 @@
 -- What the objects of a run stand for.
-use Rattle.std.specs.Prelude.{◌≡◌, ℕ, true, List, ◌++◌, Option, Some}
+use Rattle.std.specs.Prelude.{◌≡◌, ℕ, true, List, ◌++◌, Some}
 use Rattle.od_keeper.specs.Keeping.{last_image}
 use Rattle.od_keeper.specs.Memory as keeper
 use Rattle.od_keeper.specs.declared.memory.MemoryKeeper.{MemoryKeeper}

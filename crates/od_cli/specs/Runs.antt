@@ -1,7 +1,7 @@
 -- A run of a script: from a new drive, an empty folder and an empty keeper each line leads to what is after it, and prints its
 -- text. A line of other clients, and what is printed of a drive or a folder, are as they are defined; a sync leads to any logs
 -- and images, and to any end, that its contract allows where no one else asks the drive or edits the folder and nothing fails.
-use Rattle.std.specs.Prelude.{◌≡◌, ℕ, Bool, true, false, cond, List, [], ◌∷◌, ◌++◌, length, drop, codes, count_by, nat_eq}
+use Rattle.std.specs.Prelude.{◌≡◌, ℕ, Bool, false, cond, List, [], ◌∷◌, ◌++◌, length, drop, codes, count_by, nat_eq}
 use Rattle.std.specs.List.{flat_map}
 use Rattle.std.specs.Fmt.{decimal}
 use Rattle.gd_item.specs.Ids.{id_text}
@@ -22,7 +22,7 @@ use Rattle.od_sync.specs.declared.ends.SyncEnd.{SyncEnd}
 use Rattle.od_sync.specs.declared.ends.SyncEnd.TheVariants as ends
 use Rattle.od_cli.specs.Played.{content_line, line_text, line_steps}
 use Rattle.od_cli.specs.declared.line.Line.{Line}
-use Rattle.od_cli.specs.declared.line.Line.TheVariants.{OtherPut, OtherMakeFolder, OtherMove, OtherRemove, Pull, Drive, Sync, Local, Requests}
+use Rattle.od_cli.specs.declared.line.Line.TheVariants.{Sync, Local, Requests}
 
 -- what a run has come to: the drive's log, the folder's log, the committed images, and how many steps of the drive's log
 -- earlier `requests` lines told

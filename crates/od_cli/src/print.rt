@@ -1,4 +1,4 @@
-ghost use Rattle.std.specs.Prelude.{◌≡◌, ◌++◌, List, Some, codes, length, IfOk, OnOk};
+ghost use Rattle.std.specs.Prelude.{◌≡◌, ◌++◌, List, Some, codes, length, IfOk, IfErr, OnOk};
 ghost use Rattle.std.specs.List.{flat_map};
 ghost use Rattle.std.specs.Fmt.{decimal};
 ghost use Rattle.gd_item.specs.Ids.{id_text};
@@ -6,7 +6,7 @@ ghost use Rattle.gd_item.specs.Inventory.{Effect, inventory};
 ghost use Rattle.gd_item.specs.Versions.{content_at, version_at};
 ghost use Rattle.gd_store.specs.Stands.{Stands};
 ghost use Rattle.od_cli.specs.Played.{content_line, content_text, refusal_line};
-ghost use Rattle.od_cli.specs.Pulled.{item_line, shown_line};
+ghost use Rattle.od_cli.specs.Pulled.{item_line, shown_line, AreListed, IsFileAt, IsListed};
 ghost use Rattle.od_cli.specs.Replays.{bad_line_text};
 ghost use Rattle.od_cli.specs.Runs.{sync_text};
 
@@ -107,12 +107,27 @@ fn print_file(alloc: Global, out: &mut Bytes, path: &str, bytes: &[u8]) -> Resul
     out.push_slice(b"\n")
 }
 
+/// The bytes that stand in a file, or why there are none: for want of memory alone, where it is a file.
+fn read_bytes(store: &Store, id: ItemId) -> Result<Bytes, StoreFault>
+    ensures found { IfOk result (λ bytes. (log : List Effect) → Stands store.now log → version_at id.0 (content_at id.0 (inventory log)) (inventory log) ≡ Some bytes) }
+    ensures there { (log : List Effect) → Stands store.now log → IsFileAt (inventory log) id.0 → IfErr result (λ fault. fault ≡ StoreFault.Memory) }
+{
+    match store.content_number(id) {
+        Ok(content) => store.version(id, content),
+        Err(fault) => Err(fault),
+    }
+}
+
 /// The bytes that stand in a file.
-fn bytes_of(store: &Store, id: ItemId) -> Result<Bytes, StoreFault>
+fn bytes_of(store: &Store, id: ItemId) -> Result<Bytes, NoMemory>
+    requires { (log : List Effect) × Stands store.now log × IsFileAt (inventory log) id.0 }
     ensures { IfOk result (λ bytes. (log : List Effect) → Stands store.now log → version_at id.0 (content_at id.0 (inventory log)) (inventory log) ≡ Some bytes) }
 {
-    let content = store.content_number(id)?;
-    store.version(id, content)
+    match read_bytes(store, id) {
+        Ok(bytes) => Ok(bytes),
+        Err(StoreFault::Memory) => Err(NoMemory),
+        Err(_) => unreachable!(),
+    }
 }
 
 /// The line of an item at its path, with its content if it is a file.
@@ -123,15 +138,16 @@ fn print_shown(
     path: &Path,
     item: &Item,
 ) -> Result<(), NoMemory>
+    requires { (log : List Effect) × Stands store.now log × IsListed (inventory log) item.now }
     ensures { OnOk result ((log : List Effect) → Stands store.now log → out.new ≡ out.old ++ shown_line (inventory log) (path.now, item.now)) }
 {
     let path = path.write(alloc)?;
     let path = path.as_str();
     match item.kind {
-        Kind::File { .. } => match bytes_of(store, item.id) {
-            Ok(bytes) => print_file(alloc, out, path, bytes.as_slice()),
-            Err(_) => Err(NoMemory),
-        },
+        Kind::File { .. } => {
+            let bytes = bytes_of(store, item.id)?;
+            print_file(alloc, out, path, bytes.as_slice())
+        }
         Kind::Folder { .. } => {
             let text = format!(in alloc; "{path}/\n")?;
             out.push_slice(text.as_bytes())
@@ -150,6 +166,7 @@ pub fn print_contents(
     store: &Store,
     items: &[(Path, Item)],
 ) -> Result<(), NoMemory>
+    requires { (log : List Effect) × Stands store.now log × AreListed (inventory log) items.now }
     ensures { OnOk result ((log : List Effect) → Stands store.now log → out.new ≡ out.old ++ flat_map (shown_line (inventory log)) items.now) }
 {
     for (path, item) in items {

@@ -1,4 +1,4 @@
-ghost use Rattle.std.specs.Prelude.{◌≡◌, ◌≤◌, [], false, IfOk, IsErrOf};
+ghost use Rattle.std.specs.Prelude.{◌≡◌, ◌≤◌, [], true, false, IfOk, IsErrOf};
 ghost use Rattle.gd_item.specs.Sound.{IsItemMap};
 ghost use Rattle.gd_item.specs.Steps.{state_of, held_by};
 ghost use Rattle.gd_api.specs.Drives.{is_about_session};
@@ -80,12 +80,7 @@ impl World {
         if is_want_of_memory(&reply) {
             return Err(NoMemory);
         }
-        self.log.push_reserved(Step::Ask {
-            who: Who::Other,
-            request,
-            served: true,
-            heard: true,
-        });
+        self.log.push_reserved(heard_step(Who::Other, request));
         Ok(reply)
     }
 
@@ -125,15 +120,22 @@ impl World {
         if is_no_page(request, &reply) {
             return Err(self.fail());
         }
-        self.log.push_reserved(Step::Ask {
-            who: Who::Own,
-            request: sent,
-            served: true,
-            heard: true,
-        });
+        self.log.push_reserved(heard_step(Who::Own, sent));
         self.answers = self.answers.saturating_add(1);
         self.in_row = 0;
         Ok(reply)
+    }
+}
+
+/// A request that was served, and whose reply was heard.
+fn heard_step(who: Who, request: Request) -> Step
+    ensures { result ≡ Step.Ask who request true true }
+{
+    Step::Ask {
+        who,
+        request,
+        served: true,
+        heard: true,
     }
 }
 

@@ -5,6 +5,7 @@ use Rattle.gd_store.specs.Stands.{Stands}
 use Rattle.od_cli.specs.Played.{drive_text}
 use Rattle.od_cli.specs.Pulled.{shown_line}
 use Rattle.od_cli.proofs.Asking.{ok-gives}
+use Rattle.od_cli.proofs.Listed.{paths-listed}
 use Rattle.od_cli.proofs.Pulls.{whole-of}
 use Rattle.od_cli.proofs.Shown.{store-printed}
 use Rattle.od_cli.proofs.pull.print_store.Goals as goal
@@ -12,6 +13,13 @@ use Rattle.od_cli.proofs.pull.print_store.Goals as goal
 pub paths_in-requires : goal.paths_in-requires
 paths_in-requires c =
     whole-of c.in_ok-page.page c.args.store.now c.requires.0 c.requires.1 (c.in_ok-page.ensures.items c.requires.0 c.requires.1) c.in_ok-page.ensures.last
+
+pub print_contents-requires : goal.print_contents-requires
+print_contents-requires c = (
+  c.requires.0,
+  c.requires.1,
+  paths-listed c.args.store.now c.requires.0 c.in_ok-page.page.items c.in_ok-paths.paths c.as_slice.result.now c.requires.1 (c.in_ok-page.ensures.items c.requires.0 c.requires.1) c.in_ok-paths.ensures c.as_slice.ensures,
+)
 
 pub returns : goal.returns
 returns c =

@@ -1,5 +1,6 @@
-use Rattle.std.proofs.Common.{◌≡◌, false, sym, ◌∙◌, subst}
+use Rattle.std.proofs.Common.{◌≡◌, [], ◌∷◌, ◌++◌, false, sym, ap, ◌∙◌, subst}
 use Rattle.gd_item.specs.Steps.{state_of}
+use Rattle.gd_item.specs.declared.step.Step.{Step}
 use Rattle.od_transfer.specs.Undisturbed.{is_servable}
 use Rattle.od_cli.specs.Worlds.{WorldValue, IsOwnReply}
 use Rattle.od_cli.proofs.Worlds.{after-want, after-no-page, heard-is, not-servable, replied, unheard-is}
@@ -30,5 +31,5 @@ returns-clause-ok c =
           (replied c.self.inside.drive c.handle-reply.new.self c.self.inside.log.items c.args.request.now c.handle-reply.result c.self.invariant c.handle-reply.ensures.answer
           (sym c.is_about_session.ensures ∙ c.if-is_about_session.false) (sym c.is_want_of_memory.ensures ∙ c.if-is_want_of_memory.false) (sym c.is_no_page.ensures ∙ c.if-is_no_page.false)),
       heard-is c.args.self.now c.self.inside.log.items c.reserve.new.self.items c.push_reserved.new.self.items c.self.inside.faults c.self.inside.answers c.saturating_add-self-inside.result c.self.inside.in_row c.in-Ok.sent c.args.request.now
-          c.self.view_is c.reserve.ensures.items c.push_reserved.ensures.items c.in-Ok.ensures.cases c.saturating_add-self-inside.ensures,
+          c.self.view_is c.reserve.ensures.items (c.push_reserved.ensures.items ∙ ap (λ (s : Step). c.reserve.new.self.items ++ s ∷ []) c.heard_step.ensures) c.in-Ok.ensures.cases c.saturating_add-self-inside.ensures,
     )
