@@ -67,7 +67,7 @@ three_files_log = two_files_log ++ other (put_at (codes "c" ∷ []) (codes "z"))
 abbrev pub expired_log : List Step
 expired_log = two_files_log ++ other (remove_at (codes "a" ∷ [])) ∷ Event (Expire 4) ∷ []
 
--- four puts of a file, and tokens up to 4 do not serve
+-- two files were put, one of them twice more, and tokens below 4 do not serve
 abbrev pub floor_log : List Step
 floor_log =
     two_files_log ++ other (put_at (codes "a" ∷ []) (codes "z")) ∷ other (put_at (codes "a" ∷ []) (codes "y")) ∷ Event (Expire 4) ∷ []

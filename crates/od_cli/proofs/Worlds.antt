@@ -10,13 +10,17 @@ use Rattle.gd_item.specs.Answers.{answer, about, answer_unless, content_reply, d
 use Rattle.gd_item.specs.Inventory.{Inventory, live_at}
 use Rattle.gd_item.specs.Pages.{Past, Latest, Bad, Lost, asked, asked_unless, asked_by_token, is_bad, page_link, page_past}
 use Rattle.gd_item.specs.Records.{feed, first_of, last_of}
-use Rattle.gd_item.specs.Refused.{Refusal, refuse, refusal}
+use Rattle.gd_item.specs.Faults.{code_of, status_of}
+use Rattle.gd_item.specs.Refused.{Refusal, at_target, by_store, refuse, refusal}
+use Rattle.gd_item.specs.Refusals.{file_refusal, missing}
 use Rattle.gd_item.specs.Sessions.{State, held}
 use Rattle.gd_item.specs.Steps.{state_of}
 use Rattle.gd_item.specs.Targets.{target_of}
 use Rattle.gd_item.specs.Versions.{version_at}
 use Rattle.gd_item.specs.Tokens.{fields_from, token_of_fields, token_of_text}
 use Rattle.gd_item.specs.declared.fault.ErrorCode.TheVariants.{InvalidRequest}
+use Rattle.gd_item.specs.declared.fault.StoreFault.{StoreFault}
+use Rattle.gd_item.specs.declared.fault.StoreFault.TheVariants as fault
 use Rattle.gd_item.specs.declared.id.ItemId.{ItemId}
 use Rattle.gd_item.specs.declared.item.Item.{Item}
 use Rattle.gd_item.specs.declared.request.Address.{Address}
@@ -33,7 +37,7 @@ use Rattle.gd_item.specs.declared.step.Who.TheVariants.{Own}
 use Rattle.gd_item.specs.declared.token.Token.{Token}
 use Rattle.gd_api.specs.Drives.{DriveValue, Stands, Handles, is_about_session, is_refusal}
 use Rattle.gd_api.specs.WholePage.{answer_now, page_for_token, whole_delta, whole_page}
-use Rattle.od_transfer.specs.Asking.{may_answer_content, may_answer_download, may_answer_delta}
+use Rattle.od_transfer.specs.Asking.{has_status, may_answer_content, may_answer_download, may_answer_delta}
 use Rattle.od_transfer.specs.Undisturbed.{is_page, is_servable}
 use Rattle.od_cli.specs.Worlds.{WorldValue, IsDriveOf, IsOwnReply, heard, is_no_page, is_want_of_memory, page_size, unheard}
 
@@ -164,20 +168,43 @@ bytes-kind : (bytes : Option (List ℕ)) → may_answer_download (about reply.Co
 bytes-kind None = refl
 bytes-kind (Some bytes) = refl
 
-content-unless : (state : State) (size : ℕ) (at : Address) (cause : Option Refusal) → may_answer_content (answer_unless cause state size (Content at)) ≡ true
-content-unless state size at None = content-kind (held state) (target_of (held state) at)
-content-unless state size at (Some cause) = refl
+-- a refusal of the store has the status of its code
+abbrev HasStatus : Option Refusal → Type 0
+HasStatus None = Unit {0}
+HasStatus (Some cause) = has_status cause.code cause.status ≡ true
 
-download-unless : (state : State) (size : ℕ) (id : ItemId) (version : ℕ) (cause : Option Refusal) → may_answer_download (answer_unless cause state size (Download id version)) ≡ true
-download-unless state size id version None = bytes-kind (version_at id.0 version (held state))
-download-unless state size id version (Some cause) = refl
+fault-status : (f : StoreFault) → has_status (code_of f) (status_of f) ≡ true
+fault-status fault.NotFound = refl
+fault-status fault.NotFolder = refl
+fault-status fault.NotFile = refl
+fault-status fault.Root = refl
+fault-status fault.BadName = refl
+fault-status fault.Modified = refl
+fault-status fault.IntoItself = refl
+fault-status fault.NameTaken = refl
+fault-status fault.PathTooLong = refl
+fault-status fault.Quota = refl
+fault-status fault.Memory = refl
+
+store-status : (cause : Option StoreFault) → HasStatus (by_store cause)
+store-status None = tt
+store-status (Some f) = fault-status f
+
+content-unless : (state : State) (size : ℕ) (at : Address) (cause : Option Refusal) → HasStatus cause → may_answer_content (answer_unless cause state size (Content at)) ≡ true
+content-unless state size at None has = content-kind (held state) (target_of (held state) at)
+content-unless state size at (Some cause) has = has
+
+download-unless : (state : State) (size : ℕ) (id : ItemId) (version : ℕ) (cause : Option Refusal) → HasStatus cause
+    → may_answer_download (answer_unless cause state size (Download id version)) ≡ true
+download-unless state size id version None has = bytes-kind (version_at id.0 version (held state))
+download-unless state size id version (Some cause) has = has
 
 own-reply : (state : State) (request : Request) (given : Reply) → state.epoch ≡ 1 → state.floor ≡ 0 → given ≡ answer_now state page_size request → is_no_page request given ≡ false → IsOwnReply state request given
 own-reply state (Delta token) given first kept is page = delta-reply state token given first kept is page
 own-reply state (Content at) given first kept is page =
-    record { size = page_size; reply_is = is; kind = ap may_answer_content is ∙ content-unless state page_size at (refusal state (Content at)) }
+    record { size = page_size; reply_is = is; kind = ap may_answer_content is ∙ content-unless state page_size at (refusal state (Content at)) (store-status (at_target (file_refusal (held state)) (target_of (held state) at))) }
 own-reply state (Download id version) given first kept is page =
-    record { size = page_size; reply_is = is; kind = ap may_answer_download is ∙ download-unless state page_size id version (refusal state (Download id version)) }
+    record { size = page_size; reply_is = is; kind = ap may_answer_download is ∙ download-unless state page_size id version (refusal state (Download id version)) (store-status (missing (version_at id.0 version (held state)))) }
 own-reply state (Get at) given first kept is page = record { size = page_size; reply_is = is; kind = refl }
 own-reply state (Children at earlier) given first kept is page = record { size = page_size; reply_is = is; kind = refl }
 own-reply state (MakeFolder at name behaviour) given first kept is page = record { size = page_size; reply_is = is; kind = refl }

@@ -1,8 +1,8 @@
 -- Batch after batch of fetches: what one does to the logs and to the images, and what all of them do.
-use Rattle.std.proofs.Common.{◌≡◌, ℕ, ◌≤◌, Bool, true, false, ◌||◌, List, [], ◌∷◌, ◌++◌, map, Option, Some, None, Ok, Err, refl, ap, sym, subst, ◌∙◌, append_assoc, arith}
+use Rattle.std.proofs.Common.{◌≡◌, inl, inr, ℕ, ◌≤◌, Bool, true, false, ◌||◌, List, [], ◌∷◌, ◌++◌, map, Option, Some, None, Ok, Err, refl, ap, sym, subst, ◌∙◌, append_assoc, arith}
 use Rattle.std.proofs.lemmas.List.{append-nil, map-append}
-use Rattle.std.proofs.lemmas.List.Elements.{All-nil, All-cons, All-head, All-tail, All-append, All-map, All-weaker}
-use Rattle.std.specs.List.{All, AllZip, list_any}
+use Rattle.std.proofs.lemmas.List.Elements.{All-nil, All-cons, All-head, All-tail, All-append, All-map, All-weaker, Contains-append_left, Contains-append_right}
+use Rattle.std.specs.List.{All, AllZip, Contains, list_any}
 use Rattle.std.specs.Prelude.{Result, OnErr}
 use Rattle.gd_names.specs.Streams.{Rose}
 use Rattle.gd_item.specs.Inventory.{Inventory}
@@ -21,7 +21,7 @@ use Rattle.od_keeper.proofs.Growing.{sound-stays}
 use Rattle.od_transfer.specs.Alone.{AreOwnServed, is_own_served}
 use Rattle.od_transfer.specs.Asking.{Grows, IsSuch, OwnAre}
 use Rattle.od_transfer.specs.Explained.{Carries, IsExplained, IsFetchExplained}
-use Rattle.od_transfer.specs.Fits.{IsTransfer, is_lost}
+use Rattle.od_transfer.specs.Fits.{Fits, HasDigest, IsTransfer, is_lost}
 use Rattle.od_transfer.specs.declared.job.Job.{Job}
 use Rattle.od_transfer.specs.declared.job.Outcome.{Outcome}
 use Rattle.od_tree.specs.Local.{local_of}
@@ -29,13 +29,50 @@ use Rattle.od_tree.specs.Undisturbed.{IsOp}
 use Rattle.od_tree.specs.declared.local.Spot.{Spot}
 use Rattle.od_tree.specs.declared.step.LocalStep.{LocalStep}
 use Rattle.od_sync.specs.Batches.{BringsFiles, CommitsRows, FetchesFiles, Fetches, Stops, change_of_rows}
-use Rattle.od_sync.specs.Doing.{AreAcceptedFetches, AreRowsOf, CanPlace, IsBytes, IsFileOf, IsMaking, IsPathOf, Makes, PlacesAll, file_spot, job_of, placed_row}
+use Rattle.od_sync.specs.Doing.{AreAcceptedFetches, AreRowsOf, CanPlace, IsBroughtTo, IsBytes, IsFetchFit, IsFetchOf, IsFileOf, IsMaking, IsPathOf, Makes, NoFolder, PlacesAll, file_spot, job_of, placed_row}
 use Rattle.od_sync.specs.declared.planning.Fetching.{Fetching}
 use Rattle.od_sync.proofs.EachStep.{each-both, each-first, each-second}
 use Rattle.od_sync.proofs.ImagesAfter.{rows_sound}
 use Rattle.od_sync.proofs.LastImages.{last_added}
+use Rattle.od_sync.proofs.Made.{makes-so, makes-steps, makes-then}
 use Rattle.od_sync.proofs.Placed.{all-back, all-front}
 use Rattle.od_transfer.proofs.Alone.{fetched_there, transfers_keep}
+
+-- ---- the steps in the folder
+fits-batch : (batch : List Fetching) (outcomes : List Outcome) → AllZip Fits (map job_of batch) outcomes → AllZip IsFetchFit batch outcomes
+fits-batch [] [] fits = tt
+fits-batch [] (outcome ∷ outcomes) fits = absurd fits
+fits-batch (fetch ∷ batch) [] fits = absurd fits
+fits-batch (fetch ∷ batch) (outcome ∷ outcomes) fits = (fits.0, fits-batch batch outcomes fits.1)
+
+pub fits-jobs : (batch : List Fetching) (jobs : List Job) (outcomes : List Outcome) → jobs ≡ map job_of batch → AllZip Fits jobs outcomes → AllZip IsFetchFit batch outcomes
+fits-jobs batch jobs outcomes are fits = fits-batch batch outcomes (subst (λ (those : List Job). AllZip Fits those outcomes) are fits)
+
+pub fetch-among : (part whole : List Fetching) → ((fetch : Fetching) → Contains part fetch → Contains whole fetch) → (at : List (List ℕ)) (bytes : List ℕ) → IsFetchOf part at bytes → IsFetchOf whole at bytes
+fetch-among part whole among at bytes of_part = (of_part.0, among of_part.0 of_part.1, of_part.2, of_part.3)
+
+brought-fetched : (batch : List Fetching) (outcomes : List Outcome) → AllZip IsFetchFit batch outcomes → (at : List (List ℕ)) (bytes : List ℕ) → IsBroughtTo batch outcomes at bytes → IsFetchOf batch at bytes
+brought-fetched [] outcomes fits at bytes came = absurd came
+brought-fetched (fetch ∷ batch) [] fits at bytes came = absurd came
+brought-fetched (fetch ∷ batch) (outcome ∷ outcomes) fits at bytes (inl here) =
+    (fetch, Contains-append_left (fetch ∷ []) batch fetch (0, omega arith, refl), here.0, sym (subst (HasDigest fetch.digest) here.1 fits.0))
+brought-fetched (fetch ∷ batch) (outcome ∷ outcomes) fits at bytes (inr there) =
+    fetch-among batch (fetch ∷ batch) (λ other among. Contains-append_right (fetch ∷ []) batch other among) at bytes (brought-fetched batch outcomes fits.1 at bytes there)
+
+pub makes-brought : (batch : List Fetching) (outcomes came : List Outcome) (before after : Option (List LocalStep)) → came ≡ outcomes → AllZip IsFetchFit batch outcomes
+    → Makes NoFolder (IsBroughtTo batch came) before after → Makes NoFolder (IsFetchOf batch) before after
+makes-brought batch outcomes came before after same fits makes =
+    makes-so before after (λ at none. none) (brought-fetched batch came (subst (λ (those : List Outcome). AllZip IsFetchFit batch those) (sym same) fits)) makes
+
+pub makes-batch : (whole done left batch rest : List Fetching) (before now after : Option (List LocalStep)) → whole ≡ done ++ left → left ≡ batch ++ rest
+    → Makes NoFolder (IsFetchOf whole) before now → Makes NoFolder (IsFetchOf batch) now after → Makes NoFolder (IsFetchOf whole) before after
+makes-batch whole done left batch rest before now after whole_is left_is first second =
+    let among : (fetch : Fetching) → Contains batch fetch → Contains whole fetch =
+    λ fetch inside.
+    subst (λ fetches. Contains fetches fetch) (sym whole_is)
+    (Contains-append_right done left fetch (subst (λ fetches. Contains fetches fetch) (sym left_is) (Contains-append_left batch rest fetch inside)))
+    in
+    makes-then before now after first (makes-so now after (λ at none. none) (fetch-among batch whole among) second)
 
 -- ---- the bytes of a batch
 none-lost : (a b : Bool) → (a || b) ≡ false → (a ≡ false) × (b ≡ false)
@@ -82,10 +119,10 @@ paths-of inventory [] (file ∷ files) zip = absurd zip
 paths-of inventory (fetch ∷ batch) [] zip = absurd zip
 paths-of inventory (fetch ∷ batch) (file ∷ files) zip = (zip.0.path_is, paths-of inventory batch files zip.1)
 
-pub fetches-files : (batch : List Fetching) (outcomes : List Outcome) (faults_before faults_now : ℕ) (drive_before drive_after : Option (List Step)) (local_before local_after : Option (List LocalStep))
-    → BringsFiles batch outcomes faults_before faults_now drive_before drive_after → Makes local_before local_after → PlacesAll batch outcomes local_before local_after
+pub fetches-files : {IsFolder : List (List ℕ) → Type 0} {IsFile : List (List ℕ) → List ℕ → Type 0} (batch : List Fetching) (outcomes : List Outcome) (faults_before faults_now : ℕ) (drive_before drive_after : Option (List Step)) (local_before local_after : Option (List LocalStep))
+    → BringsFiles batch outcomes faults_before faults_now drive_before drive_after → Makes IsFolder IsFile local_before local_after → PlacesAll batch outcomes local_before local_after
     → FetchesFiles batch faults_before faults_now drive_before drive_after local_before local_after
-fetches-files batch outcomes faults_before faults_now drive_before drive_after local_before local_after brought makes placed = record {
+fetches-files {IsFolder} {IsFile} batch outcomes faults_before faults_now drive_before drive_after local_before local_after brought makes placed = record {
   told = λ drive local told told_local.
       let came = brought.told drive told in
       let made = makes.told local told_local in
@@ -94,7 +131,7 @@ fetches-files batch outcomes faults_before faults_now drive_before drive_after l
         transfers = came.transfers;
         drive_grown = came.grown;
         part = made.part;
-        makes = made.makes;
+        makes = makes-steps IsFolder IsFile made.part made.makes;
         local_grown = made.grown;
         all = λ no_fault own alone files zip can.
             placed.all files local made.part told_local made.grown alone (paths-of (held_by drive) batch files zip) (came.all no_fault own files zip) can;
@@ -290,9 +327,9 @@ stops-none image fetches drive local images = record {
   };
 }
 
-pub stops-by : (image : Image) (fetches : List Fetching) (drive_before drive_after : Option (List Step)) (local_before local_after : Option (List LocalStep)) (images_before images_after : Option (List Image))
-    → Grows IsTransfer drive_before drive_after → Makes local_before local_after → Stay images_before images_after → Stops image fetches drive_before drive_after local_before local_after images_before images_after
-stops-by image fetches drive_before drive_after local_before local_after images_before images_after grows makes stay = record {
+pub stops-by : {IsFolder : List (List ℕ) → Type 0} {IsFile : List (List ℕ) → List ℕ → Type 0} (image : Image) (fetches : List Fetching) (drive_before drive_after : Option (List Step)) (local_before local_after : Option (List LocalStep)) (images_before images_after : Option (List Image))
+    → Grows IsTransfer drive_before drive_after → Makes IsFolder IsFile local_before local_after → Stay images_before images_after → Stops image fetches drive_before drive_after local_before local_after images_before images_after
+stops-by {IsFolder} {IsFile} image fetches drive_before drive_after local_before local_after images_before images_after grows makes stay = record {
   told = λ drive local images told told_local told_images is.
       let grown = grows.told drive told in
       let made = makes.told local told_local in
@@ -301,7 +338,7 @@ stops-by image fetches drive_before drive_after local_before local_after images_
         transfers = grown.such;
         drive_grown = grown.grown;
         part = made.part;
-        makes = made.makes;
+        makes = makes-steps IsFolder IsFile made.part made.makes;
         local_grown = made.grown;
         added = [];
         images_grown = stay images told_images ∙ ap (λ those. Some those) (sym (append-nil images));
@@ -313,8 +350,8 @@ on-err : {T E : Type 0} (result : Result T E) (P : Type 0) → P → OnErr resul
 on-err (Ok x) P holds = tt
 on-err (Err e) P holds = holds
 
-pub stops-at : {T E : Type 0} (result : Result T E) (image : Image) (fetches : List Fetching) (drive_before drive_after : Option (List Step)) (local_before local_after : Option (List LocalStep))
-    (images_before images_after : Option (List Image)) → Grows IsTransfer drive_before drive_after → Makes local_before local_after → Stay images_before images_after
+pub stops-at : {T E : Type 0} {IsFolder : List (List ℕ) → Type 0} {IsFile : List (List ℕ) → List ℕ → Type 0} (result : Result T E) (image : Image) (fetches : List Fetching) (drive_before drive_after : Option (List Step)) (local_before local_after : Option (List LocalStep))
+    (images_before images_after : Option (List Image)) → Grows IsTransfer drive_before drive_after → Makes IsFolder IsFile local_before local_after → Stay images_before images_after
     → OnErr result (Stops image fetches drive_before drive_after local_before local_after images_before images_after)
 stops-at result image fetches drive_before drive_after local_before local_after images_before images_after grows makes stay =
     on-err result (Stops image fetches drive_before drive_after local_before local_after images_before images_after)

@@ -1,8 +1,8 @@
 -- A plan that is done: the folders, and then the files that are tried.
 use Rattle.std.proofs.Common.{◌≡◌, ℕ, ◌≤◌, Bool, true, not, cond, List, [], ◌∷◌, ◌++◌, map, filter, nat_le, Option, Some, refl, ap, sym, subst, ◌∙◌, append_assoc}
 use Rattle.std.proofs.lemmas.Bool.{le-leb, leb-true, and_parts, or_right}
-use Rattle.std.proofs.lemmas.List.Elements.{All-filter, All-weaker, filter_passes}
-use Rattle.std.specs.List.{All, AllByRecursion, AllZip}
+use Rattle.std.proofs.lemmas.List.Elements.{All-contains, All-contains_itself, All-filter, All-weaker, filter_passes}
+use Rattle.std.specs.List.{All, AllByRecursion, AllZip, Contains}
 use Rattle.gd_item.specs.Inventory.{Inventory}
 use Rattle.gd_item.specs.Steps.{held_by, accepted_by}
 use Rattle.gd_item.specs.declared.request.Request.{Request}
@@ -19,11 +19,13 @@ use Rattle.od_tree.specs.declared.step.LocalStep.TheVariants.{User, Op}
 use Rattle.od_tree.specs.declared.step.TreeOp.TheVariants as op
 use Rattle.od_sync.specs.Batches.{Fetches, Stops}
 use Rattle.od_sync.specs.Deltas.{is_delta}
-use Rattle.od_sync.specs.Doing.{AreAcceptedFetches, CanPlace, IsFileOf, IsMaking, Makes, MakesAll, file_spot, is_below_any, is_tried, most_bytes}
+use Rattle.od_sync.specs.Doing.{AreAcceptedFetches, CanPlace, IsFetchOf, IsFileOf, IsFolderOf, IsMaking, Makes, MakesAll, NoFile, NoFolder, file_spot, is_below_any, is_tried, most_bytes}
 use Rattle.od_sync.specs.Syncing.{Does, Goes, IsSyncRequest, IsSyncStep}
 use Rattle.od_sync.specs.declared.planning.Fetching.{Fetching}
 use Rattle.od_sync.specs.declared.planning.Plan.{Plan}
+use Rattle.od_sync.proofs.Batched.{fetch-among}
 use Rattle.od_sync.proofs.EachStep.{each-also, each-both, each-first, each-second}
+use Rattle.od_sync.proofs.Made.{makes-so, makes-steps, makes-then}
 
 sync-step : (step : LocalStep) → IsMaking step → IsSyncStep step
 sync-step (User edit) makes = tt
@@ -63,12 +65,30 @@ all-tried inventory (fetch ∷ fetches) (file ∷ files) zip =
     ap (λ b. cond b (fetch ∷ filter (is_tried []) fetches) (filter (is_tried []) fetches)) (le-leb fetch.size most_bytes zip.0.size_fits)
     ∙ ap (λ fs. fetch ∷ fs) (all-tried inventory fetches files zip.1)
 
+-- ---- the steps in the folder
+pub makes-folders : (folders made : List (List (List ℕ))) (fetches : List Fetching) (before after : Option (List LocalStep)) → made ≡ folders → Makes (IsFolderOf made) NoFile before after
+    → Makes (IsFolderOf folders) (IsFetchOf fetches) before after
+makes-folders folders made fetches before after same makes =
+    makes-so before after (λ at among. subst (λ (those : List (List (List ℕ))). Contains those at) same among) (λ at bytes none. absurd none) makes
+
+tried-among : (barred : List (List (List ℕ))) (fetches : List Fetching) (fetch : Fetching) → Contains (filter (is_tried barred) fetches) fetch → Contains fetches fetch
+tried-among barred fetches fetch among =
+    All-contains (Contains fetches) (filter (is_tried barred) fetches) fetch (All-filter (is_tried barred) (Contains fetches) fetches (All-contains_itself fetches)) among
+
+pub makes-plan : (folders made : List (List (List ℕ))) (fetches tried : List Fetching) (barred : List (List (List ℕ))) (before now after : Option (List LocalStep)) → made ≡ folders → tried ≡ filter (is_tried barred) fetches
+    → Makes (IsFolderOf made) NoFile before now → Makes NoFolder (IsFetchOf tried) now after → Makes (IsFolderOf folders) (IsFetchOf fetches) before after
+makes-plan folders made fetches tried barred before now after same tried_are first second =
+    let among : (fetch : Fetching) → Contains tried fetch → Contains fetches fetch =
+    λ fetch inside. tried-among barred fetches fetch (subst (λ those. Contains those fetch) tried_are inside)
+    in
+    makes-then before now after (makes-folders folders made fetches before now same first) (makes-so now after (λ at none. absurd none) (fetch-among tried fetches among) second)
+
 -- ---- how all three grow
-pub goes-plan : (image : Image) (fetches tried : List Fetching) (barred : List (List (List ℕ))) (drive_before drive_after : Option (List Step)) (local_before local_mid local_after : Option (List LocalStep))
-    (images_before images_after : Option (List Image)) → tried ≡ filter (is_tried barred) fetches → Makes local_before local_mid
+pub goes-plan : {IsFolder : List (List ℕ) → Type 0} {IsFile : List (List ℕ) → List ℕ → Type 0} (image : Image) (fetches tried : List Fetching) (barred : List (List (List ℕ))) (drive_before drive_after : Option (List Step)) (local_before local_mid local_after : Option (List LocalStep))
+    (images_before images_after : Option (List Image)) → tried ≡ filter (is_tried barred) fetches → Makes IsFolder IsFile local_before local_mid
     → Stops image tried drive_before drive_after local_mid local_after images_before images_after
     → Goes (λ drive. IsSound image drive × AreAcceptedFetches (accepted_by drive) fetches) image drive_before drive_after local_before local_after images_before images_after
-goes-plan image fetches tried barred drive_before drive_after local_before local_mid local_after images_before images_after tried_are makes stops = record {
+goes-plan {IsFolder} {IsFile} image fetches tried barred drive_before drive_after local_before local_mid local_after images_before images_after tried_are makes stops = record {
   told = λ drive local images told told_local told_images is.
       let made = makes.told local told_local in
       let stopped = stops.told drive (local ++ made.part) images told made.grown told_images is in
@@ -77,7 +97,7 @@ goes-plan image fetches tried barred drive_before drive_after local_before local
         asked = such-also IsTransfer IsSyncRequest sync-request stopped.more stopped.transfers;
         drive_grown = stopped.drive_grown;
         part = made.part ++ stopped.part;
-        steps = sync-steps (made.part ++ stopped.part) (each-both IsMaking made.part stopped.part made.makes stopped.makes);
+        steps = sync-steps (made.part ++ stopped.part) (each-both IsMaking made.part stopped.part (makes-steps IsFolder IsFile made.part made.makes) stopped.makes);
         local_grown = stopped.local_grown ∙ ap (λ those. Some those) (append_assoc local made.part stopped.part);
         added = stopped.added;
         images_grown = stopped.images_grown;
@@ -89,11 +109,11 @@ goes-plan image fetches tried barred drive_before drive_after local_before local
 }
 
 -- ---- what is done
-pub does-plan : (image : Image) (plan : Plan) (tried : List Fetching) (barred : List (List (List ℕ))) (next : Image) (faults_before faults_now : ℕ) (drive_before drive_after : Option (List Step))
-    (local_before local_mid local_after : Option (List LocalStep)) (images_before images_after : Option (List Image)) → tried ≡ filter (is_tried barred) plan.fetches → Makes local_before local_mid
+pub does-plan : {IsFolder : List (List ℕ) → Type 0} {IsFile : List (List ℕ) → List ℕ → Type 0} (image : Image) (plan : Plan) (tried : List Fetching) (barred : List (List (List ℕ))) (next : Image) (faults_before faults_now : ℕ) (drive_before drive_after : Option (List Step))
+    (local_before local_mid local_after : Option (List LocalStep)) (images_before images_after : Option (List Image)) → tried ≡ filter (is_tried barred) plan.fetches → Makes IsFolder IsFile local_before local_mid
     → MakesAll plan.folders local_before local_mid barred → Fetches image tried next faults_before faults_now drive_before drive_after local_mid local_after images_before images_after
     → Does image plan next faults_before faults_now drive_before drive_after local_before local_after images_before images_after
-does-plan image plan tried barred next faults_before faults_now drive_before drive_after local_before local_mid local_after images_before images_after tried_are makes all_made fetches = record {
+does-plan {IsFolder} {IsFile} image plan tried barred next faults_before faults_now drive_before drive_after local_before local_mid local_after images_before images_after tried_are makes all_made fetches = record {
   told = λ drive local images told told_local told_images is.
       let made = makes.told local told_local in
       let done = fetches.told drive (local ++ made.part) images told made.grown told_images is in
@@ -102,7 +122,7 @@ does-plan image plan tried barred next faults_before faults_now drive_before dri
         transfers = done.transfers;
         drive_grown = done.drive_grown;
         part = made.part ++ done.part;
-        steps = sync-steps (made.part ++ done.part) (each-both IsMaking made.part done.part made.makes done.makes);
+        steps = sync-steps (made.part ++ done.part) (each-both IsMaking made.part done.part (makes-steps IsFolder IsFile made.part made.makes) done.makes);
         local_grown = done.local_grown ∙ ap (λ those. Some those) (append_assoc local made.part done.part);
         added = done.added;
         images_grown = done.images_grown;

@@ -1,5 +1,5 @@
 -- What a scan has found so far, since it listed the root.
-use Rattle.std.proofs.Common.{◌≡◌, ℕ, false, List, [], ◌∷◌, ◌++◌, ◌-◌, take, Option, Some, refl, ap, subst, ◌∙◌, append_assoc}
+use Rattle.std.proofs.Common.{◌≡◌, ℕ, false, List, [], ◌∷◌, ◌++◌, ◌-◌, take, Option, Some, refl, ap, sym, subst, ◌∙◌, append_assoc}
 use Rattle.std.proofs.lemmas.List.{append-nil, map-append}
 use Rattle.std.specs.List.{AllByRecursion, list_any}
 use Rattle.od_tree.specs.Calls.{edited}
@@ -11,12 +11,13 @@ use Rattle.od_tree.specs.declared.local.Spot.{Spot}
 use Rattle.od_tree.specs.declared.step.LocalStep.{LocalStep}
 use Rattle.od_tree.specs.declared.step.LocalStep.TheVariants.{Op}
 use Rattle.od_tree.specs.declared.step.TreeOp.TheVariants as op
+use Rattle.od_sync.specs.Findings.{found_by}
 use Rattle.od_sync.specs.Scans.{IsLook, is_root_listing, Finds}
 use Rattle.od_sync.specs.Visits.{Sees, Begins, Visits, Turn, turns, pushed}
 use Rattle.od_sync.specs.declared.scanning.Node.{Node}
 use Rattle.od_sync.specs.declared.waiting.Waiting.{Waiting}
 use Rattle.od_tree.proofs.Shaped.{folder_is_tree}
-use Rattle.od_sync.proofs.Looks.{looks-append, below-append, looks-keep, alone-first, alone-second}
+use Rattle.od_sync.proofs.Looks.{looks-append, below-append, found-append, looks-keep, alone-first, alone-second}
 use Rattle.od_sync.proofs.Scanned.{Going, begins, goes-on, ends}
 
 -- the root was listed, and then what is below it was looked at
@@ -26,6 +27,7 @@ pub record FoundSoFar (found : List (List (List ℕ) × Node)) (stack : List Tur
   pub grown : now ≡ Some (edited old edits ++ Op (op.List []) ∷ rest)
   pub looks : AllByRecursion IsLook rest
   pub once : list_any is_root_listing rest ≡ false
+  pub found_is : found ≡ found_by (edited old edits ++ Op (op.List []) ∷ []) rest
   pub going : NoUser rest → Going (local_of (edited old edits)).spots found stack
 
 pub record FindsSoFar (found : List (List (List ℕ) × Node)) (stack : List Turn) (before now : Option (List LocalStep)) : Type 0 where
@@ -42,6 +44,7 @@ finds-first stack stack_old before after empty first = record {
         grown = begun.grown;
         looks = tt;
         once = refl;
+        found_is = refl;
         going = λ alone. begins spots (folder_is_tree (edited old begun.edits)) stack
             (begun.waiting_is ∙ ap (λ (s : List Turn). pushed [] (entries_in [] spots) s) empty);
       };
@@ -49,9 +52,10 @@ finds-first stack stack_old before after empty first = record {
 
 -- one more visit
 found-next : (next : Waiting) (found found_now : List (List (List ℕ) × Node)) (stack stack_now : List Turn) (old : List LocalStep) (middle after : Option (List LocalStep))
-    → FoundSoFar found (stack ++ (next.path, next.folder) ∷ []) old middle → Sees (Visits next.path next.folder found found_now stack stack_now) middle after → FoundSoFar found_now stack_now old after
+    → FoundSoFar found (stack ++ (next.path, next.folder) ∷ []) old middle → Sees found found_now (Visits next.path next.folder found found_now stack stack_now) middle after → FoundSoFar found_now stack_now old after
 found-next next found found_now stack stack_now old middle after so_far visits =
     let first : List LocalStep = edited old so_far.edits in
+    let root : List LocalStep = Op (op.List []) ∷ [] in
     let listed : List LocalStep = Op (op.List []) ∷ so_far.rest in
     let seen = visits.told (first ++ listed) so_far.grown in
     record {
@@ -60,6 +64,10 @@ found-next next found found_now stack stack_now old middle after so_far visits =
       grown = seen.grown ∙ ap (λ log. Some log) (append_assoc first listed seen.part);
       looks = looks-append so_far.rest seen.part so_far.looks seen.looks;
       once = below-append so_far.rest seen.part so_far.once seen.below;
+      found_is =
+          seen.found_is ∙ ap (λ (f : List (List (List ℕ) × Node)). f ++ found_by (first ++ listed) seen.part) so_far.found_is
+          ∙ ap (λ (log : List LocalStep). found_by (first ++ root) so_far.rest ++ found_by log seen.part) (sym (append_assoc first root so_far.rest))
+          ∙ sym (found-append (first ++ root) so_far.rest seen.part);
       going = λ alone.
           let before = alone-first so_far.rest seen.part alone in
           goes-on (local_of first).spots (folder_is_tree first) next.path next.folder found found_now stack stack_now (so_far.going before)
@@ -68,7 +76,7 @@ found-next next found found_now stack stack_now old middle after so_far visits =
     }
 
 pub finds-next : (next : Waiting) (found found_now : List (List (List ℕ) × Node)) (whole popped after_visit : List Waiting) (before middle after : Option (List LocalStep)) → whole ≡ popped ++ next ∷ []
-    → FindsSoFar found (turns whole) before middle → Sees (Visits next.path next.folder found found_now (turns popped) (turns after_visit)) middle after → FindsSoFar found_now (turns after_visit) before after
+    → FindsSoFar found (turns whole) before middle → Sees found found_now (Visits next.path next.folder found found_now (turns popped) (turns after_visit)) middle after → FindsSoFar found_now (turns after_visit) before after
 finds-next next found found_now whole popped after_visit before middle after is finds visits = record {
   told = λ old told.
       found-next next found found_now (turns popped) (turns after_visit) old middle after
@@ -87,6 +95,7 @@ finds-last found result waiting before after empty same finds = record {
         grown = so_far.grown;
         looks = so_far.looks;
         once = so_far.once;
+        found_is = same ∙ so_far.found_is;
         all = λ alone. same ∙ ends spots (folder_is_tree (edited old so_far.edits)) found (subst (λ (w : List Waiting). Going spots found (turns w)) empty (so_far.going alone));
       };
 }

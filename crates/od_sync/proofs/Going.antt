@@ -11,7 +11,6 @@ use Rattle.od_keeper.specs.Sound.{IsSound}
 use Rattle.od_keeper.specs.declared.image.BaseRow.{BaseRow}
 use Rattle.od_keeper.specs.declared.image.Change.{Change}
 use Rattle.od_keeper.specs.declared.image.Image.{Image}
-use Rattle.od_transfer.specs.Asking.{Grows}
 use Rattle.od_transfer.specs.Undisturbed.{is_servable}
 use Rattle.gd_item.specs.Steps.{state_of, accepted_by}
 use Rattle.gd_item.specs.declared.item.Item.{Item}
@@ -21,7 +20,7 @@ use Rattle.od_tree.specs.declared.step.LocalStep.TheVariants.{User, Op}
 use Rattle.od_tree.specs.declared.step.TreeOp.TheVariants as op
 use Rattle.od_sync.specs.Agreeing.{agreement}
 use Rattle.od_sync.specs.Comparing.{IsKindAccepted}
-use Rattle.od_sync.specs.Deltas.{IsAskedWith}
+use Rattle.od_sync.specs.Deltas.{AsksDelta}
 use Rattle.od_sync.specs.Doing.{AreAcceptedFetches}
 use Rattle.od_sync.specs.Planning.{planned_fetches}
 use Rattle.od_sync.specs.Receiving.{AreSides, Got, Keeps, Receives}
@@ -33,6 +32,7 @@ use Rattle.od_sync.specs.declared.planning.Fetching.{Fetching}
 use Rattle.od_sync.specs.declared.receiving.Received.{Received}
 use Rattle.od_sync.specs.declared.scanning.Node.{Node}
 use Rattle.od_sync.proofs.ImagesAfter.{agreement_sound}
+use Rattle.od_sync.proofs.Looks.{looks-none}
 use Rattle.od_sync.proofs.RecordDigests.{record_digest_accepted}
 use Rattle.od_sync.proofs.Growth.{answered, asked-answered, asked-with, last-push, look-steps, none-more, scan-steps, scan-is-steps}
 use Rattle.od_sync.proofs.PlannedKinds.{IsKindIn, fetches-accepted}
@@ -42,10 +42,10 @@ IsSoundIn image drive = IsSound image drive
 
 -- ---- a pull without a commit
 pub goes-pull : (image : Image) (before after : Option (List Step)) (local : Option (List LocalStep)) (images_before images_after : Option (List Image))
-    → Grows (IsAskedWith image.token) before after → Stay images_before images_after → Goes (IsSoundIn image) image before after local local images_before images_after
-goes-pull image before after local images_before images_after grows stay = record {
+    → AsksDelta image.token before after → Stay images_before images_after → Goes (IsSoundIn image) image before after local local images_before images_after
+goes-pull image before after local images_before images_after asks stay = record {
   told = λ drive steps images told local_told images_told last.
-      let g = grows.told drive told in
+      let g = asks.told drive told in
       record {
         more = g.part;
         asked = asked-with image.token g.part g.such;
@@ -60,15 +60,12 @@ goes-pull image before after local images_before images_after grows stay = recor
 }
 
 -- ---- with its commit, and with a scan or none
-nothing-looked : (local : Option (List LocalStep)) (steps : List LocalStep) → local ≡ Some steps → Looked steps local
-nothing-looked local steps told = record { part = []; looks = tt; grown = none-more local steps told }
-
 one-sound : (image : Image) (drive spent last : List Step) → IsSound image (drive ++ spent) → IsSound image (drive ++ (spent ++ last))
 one-sound image drive spent last sound = subst (λ (log : List Step). IsSound image log) (append_assoc drive spent last) (sound-stays image (drive ++ spent) last sound)
 
-went-got : (image : Image) (received : Received) (drive : List Step) (local : List LocalStep) (images : List Image) (after : Option (List Step)) (local_after : Option (List LocalStep)) (images_between images_after : Option (List Image))
-    → Got image received drive images after images_between → Stay images_between images_after → Looked local local_after → Went (IsSound image drive) drive local images after local_after images_after
-went-got image received drive local images after local_after images_between images_after g stay looked = record {
+went-got : (listings : ℕ) (image : Image) (received : Received) (drive : List Step) (local : List LocalStep) (images : List Image) (after : Option (List Step)) (local_after : Option (List LocalStep)) (images_between images_after : Option (List Image))
+    → Got image received drive images after images_between → Stay images_between images_after → Looked listings local local_after → Went (IsSound image drive) drive local images after local_after images_after
+went-got listings image received drive local images after local_after images_between images_after g stay looked = record {
   more = g.spent ++ answered image.token;
   asked = asked-answered image.token g.spent g.such;
   drive_grown = g.drive_grown ∙ ap (λ log. Some log) (append_assoc drive g.spent (answered image.token));
@@ -89,15 +86,15 @@ pub goes-got : (image : Image) (received : Received) (before after : Option (Lis
     → Receives image received before after images_before images_after → Goes (IsSoundIn image) image before after local local images_before images_after
 goes-got image received before after local images_before images_after receives = record {
   told = λ drive steps images told local_told images_told last.
-      went-got image received drive steps images after local images_after images_after (receives.told drive images told images_told last) (stays images_after) (nothing-looked local steps local_told);
+      went-got 0 image received drive steps images after local images_after images_after (receives.told drive images told images_told last) (stays images_after) ((looks-none local).told steps local_told);
 }
 
 pub goes-scanned : (image : Image) (received : Received) (before after : Option (List Step)) (local_before local_after : Option (List LocalStep)) (images_before images_between images_after : Option (List Image))
-    → Receives image received before after images_before images_between → Looks local_before local_after → Stay images_between images_after
+    → Receives image received before after images_before images_between → Looks 1 local_before local_after → Stay images_between images_after
     → Goes (IsSoundIn image) image before after local_before local_after images_before images_after
 goes-scanned image received before after local_before local_after images_before images_between images_after receives looks stay = record {
   told = λ drive steps images told local_told images_told last.
-      went-got image received drive steps images after local_after images_between images_after (receives.told drive images told images_told last) stay (looks.told steps local_told);
+      went-got 1 image received drive steps images after local_after images_between images_after (receives.told drive images told images_told last) stay (looks.told steps local_told);
 }
 
 -- ---- the whole look
@@ -139,6 +136,7 @@ met : (image : Image) (received : Received) (found : List (List (List ℕ) × No
 met image received found sides drive local images after local_after images_between images_after g f are grown = record {
   spent = g.spent;
   such = g.such;
+  sent = g.sent;
   drive_grown = g.drive_grown;
   edits = f.edits;
   rest = f.rest;
@@ -155,6 +153,7 @@ met image received found sides drive local images after local_after images_betwe
   items = g.items;
   remote_is = are.remote_is ∙ g.remote_is;
   mirrors = g.mirrors;
+  found_is = are.local_is ∙ f.found_is;
   local_is = λ alone. are.local_is ∙ f.all alone;
 }
 

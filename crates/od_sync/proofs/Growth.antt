@@ -25,6 +25,8 @@ use Rattle.od_sync.specs.Deltas.{IsAskedWith, IsSpent, is_delta}
 use Rattle.od_sync.specs.Rounds.{Grew}
 use Rattle.od_sync.specs.Scans.{IsLook}
 use Rattle.od_sync.specs.Syncing.{IsSyncRequest, IsSyncStep}
+use Rattle.od_sync.specs.Syncs.{IsFromDrive}
+use Rattle.od_sync.proofs.HadThen.{had-earlier, had-longer}
 
 -- ---- lists in general
 pub none-more : {X : Type 0} (log : Option (List X)) (old : List X) → log ≡ Some old → log ≡ Some (old ++ [])
@@ -101,17 +103,19 @@ look-step (Op op.Asides) look = absurd look
 pub look-steps : (steps : List LocalStep) → AllByRecursion IsLook steps → AllByRecursion IsSyncStep steps
 look-steps steps looks = each-so IsLook IsSyncStep look-step steps looks
 
-edit-steps : (edits : List UserEdit) → AllByRecursion IsSyncStep (map (λ (edit : UserEdit). User edit) edits)
-edit-steps [] = tt
-edit-steps (edit ∷ edits) = (tt, edit-steps edits)
+edit-looks : (edits : List UserEdit) → AllByRecursion IsLook (map (λ (edit : UserEdit). User edit) edits)
+edit-looks [] = tt
+edit-looks (edit ∷ edits) = (tt, edit-looks edits)
 
 -- the steps of a scan: edits of the user, the listing of the root, and the looks below it
 abbrev pub scan-steps : List UserEdit → List LocalStep → List LocalStep
 scan-steps edits rest = map (λ (edit : UserEdit). User edit) edits ++ Op (op.List []) ∷ rest
 
+pub scan-looks : (edits : List UserEdit) (rest : List LocalStep) → AllByRecursion IsLook rest → AllByRecursion IsLook (scan-steps edits rest)
+scan-looks edits rest looks = each-append IsLook (map (λ (edit : UserEdit). User edit) edits) (Op (op.List []) ∷ rest) (edit-looks edits) (tt, looks)
+
 pub scan-is-steps : (edits : List UserEdit) (rest : List LocalStep) → AllByRecursion IsLook rest → AllByRecursion IsSyncStep (scan-steps edits rest)
-scan-is-steps edits rest looks =
-    each-append IsSyncStep (map (λ (edit : UserEdit). User edit) edits) (Op (op.List []) ∷ rest) (edit-steps edits) (tt, look-steps rest looks)
+scan-is-steps edits rest looks = look-steps (scan-steps edits rest) (scan-looks edits rest looks)
 
 -- ---- growth after growth
 later-sound : (mid more now : List Step) (added : List Image) → now ≡ mid ++ more → All (λ (image : Image). IsSound image mid) added → All (λ (image : Image). IsSound image now) added
@@ -135,15 +139,16 @@ grew-sound {drive} {more} {now} {local} {part} {lnow} {images} {added} {inow} gr
 -- more that comes after it
 pub grew-more : {drive m1 mid : List Step} {local p1 lmid : List LocalStep} {images a1 imid : List Image} (m2 : List Step) (p2 : List LocalStep) (a2 : List Image)
     → Grew drive m1 mid local p1 lmid images a1 imid → OwnAre IsSyncRequest m2 → AllByRecursion IsSyncStep p2
-    → (IsSound (last_image images) drive → All (λ (image : Image). IsSound image (mid ++ m2)) a2)
+    → (IsSound (last_image images) drive → All (λ (image : Image). IsSound image (mid ++ m2)) a2) → (IsSound (last_image images) drive → AllByRecursion (IsFromDrive drive (m1 ++ m2)) p2)
     → Grew drive (m1 ++ m2) (mid ++ m2) local (p1 ++ p2) (lmid ++ p2) images (a1 ++ a2) (imid ++ a2)
-grew-more {drive} {m1} {mid} {local} {p1} {lmid} {images} {a1} {imid} m2 p2 a2 first asked steps sounds = record {
+grew-more {drive} {m1} {mid} {local} {p1} {lmid} {images} {a1} {imid} m2 p2 a2 first asked steps sounds had = record {
   drive_is = ap (λ log. log ++ m2) first.drive_is ∙ append_assoc drive m1 m2;
   asked = such-append IsSyncRequest m1 m2 first.asked asked;
   local_is = ap (λ log. log ++ p2) first.local_is ∙ append_assoc local p1 p2;
   steps = each-append IsSyncStep p1 p2 first.steps steps;
   images_are = ap (λ all_images. all_images ++ a2) first.images_are ∙ append_assoc images a1 a2;
   sound = λ sound. All-append (λ (image : Image). IsSound image (mid ++ m2)) a1 a2 (later-sound mid m2 (mid ++ m2) a1 refl (first.sound sound)) (sounds sound);
+  had = λ sound. each-append (IsFromDrive drive (m1 ++ m2)) p1 p2 (had-longer drive m1 m2 p1 (first.had sound)) (had sound);
 }
 
 pub grew-then : {drive m1 mid m2 now : List Step} {local p1 lmid p2 lnow : List LocalStep} {images a1 imid a2 inow : List Image}
@@ -158,4 +163,7 @@ grew-then {drive} {m1} {mid} {m2} {now} {local} {p1} {lmid} {p2} {lnow} {images}
       All-append (λ (image : Image). IsSound image now) a1 a2
       (later-sound mid m2 now a1 second.drive_is (first.sound sound))
       (second.sound (grew-sound first sound));
+  had = λ sound.
+      each-append (IsFromDrive drive (m1 ++ m2)) p1 p2 (had-longer drive m1 m2 p1 (first.had sound))
+      (had-earlier drive m1 m2 p2 (subst (λ (log : List Step). AllByRecursion (IsFromDrive log m2) p2) first.drive_is (second.had (grew-sound first sound))));
 }

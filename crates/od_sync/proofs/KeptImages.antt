@@ -12,11 +12,11 @@ use Rattle.od_keeper.specs.declared.image.Change.{Change}
 use Rattle.od_keeper.specs.declared.image.Image.{Image}
 use Rattle.od_transfer.specs.Asking.{Grows, IsSuch}
 use Rattle.od_sync.specs.Batches.{CommitsRows, change_of_rows}
-use Rattle.od_sync.specs.Ends.{stop_of_keeper, stop_of_scan}
+use Rattle.od_sync.specs.Ends.{stop_of_keeper, stop_of_folder}
 use Rattle.od_sync.specs.Serving.{KeepsToken, Leaves}
 use Rattle.od_sync.specs.Syncing.{IsDoStop}
-use Rattle.od_sync.specs.declared.scanning.ScanFault.{ScanFault}
-use Rattle.od_sync.specs.declared.scanning.ScanFault.TheVariants as scan
+use Rattle.od_sync.specs.declared.scanning.FolderFault.{FolderFault}
+use Rattle.od_sync.specs.declared.scanning.FolderFault.TheVariants as scan
 use Rattle.od_sync.proofs.EachStep.{each-both}
 
 -- ---- the last image
@@ -98,7 +98,7 @@ pub no-faults-then : (u v : Bool) (before now after : ℕ) → (u ≡ true → v
 no-faults-then u v before now after stays first second is = second (stays is) ∙ first is
 
 -- ---- what stops it
-pub do-stop-scan : (fault : ScanFault) → IsDoStop (stop_of_scan fault)
+pub do-stop-scan : (fault : FolderFault) → IsDoStop (stop_of_folder fault)
 do-stop-scan scan.Failed = tt
 do-stop-scan scan.Memory = tt
 

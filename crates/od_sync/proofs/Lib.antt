@@ -22,6 +22,7 @@ pub mod KeptPull
 pub mod EachStep
 pub mod Made
 pub mod Placed
+pub mod RowsPut
 pub mod KeptImages
 pub mod ImagesAfter
 pub mod LastImages
@@ -42,6 +43,8 @@ pub mod Uncounted
 pub mod Placing
 pub mod Contents
 pub mod SameTrees
+pub mod HadThen
+pub mod LooksFound
 pub mod RecordDigests
 pub mod SameItems
 pub mod PullWalks

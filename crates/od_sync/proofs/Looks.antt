@@ -1,7 +1,8 @@
 -- A scan's calls of the folder change nothing but by the user.
-use Rattle.std.proofs.Common.{◌≡◌, ◌⊎◌, inl, inr, ℕ, ◌+◌, ◌<◌, Bool, true, false, not, ◌||◌, cond, List, [], ◌∷◌, ◌++◌, map, length, is_none, Option, Some, None, Ok, Err, refl, ap, sym, subst, ◌∙◌, append_assoc, arith}
+use Rattle.std.proofs.Common.{◌≡◌, ◌⊎◌, inl, inr, ℕ, ◌+◌, ◌<◌, ◌≤◌, Bool, true, false, not, ◌||◌, cond, List, [], ◌∷◌, ◌++◌, map, count_by, length, is_none, Option, Some, None, Ok, Err, refl, ap, sym, subst, ◌∙◌, append_assoc, arith}
 use Rattle.std.proofs.lemmas.List.{append-nil}
 use Rattle.std.proofs.lemmas.List.Folds.{list_any-append}
+use Rattle.std.proofs.lemmas.List.Sums.{sum_by-append}
 use Rattle.std.specs.List.{AllByRecursion, list_any}
 use Rattle.std.specs.Prelude.{Result, OnOk}
 use Rattle.std.specs.Option.{option_map}
@@ -22,8 +23,9 @@ use Rattle.od_tree.specs.declared.step.LocalStep.{LocalStep}
 use Rattle.od_tree.specs.declared.step.LocalStep.TheVariants.{User, Op}
 use Rattle.od_tree.specs.declared.step.TreeOp.{TreeOp}
 use Rattle.od_tree.specs.Undisturbed.{IsOp, NoUser}
+use Rattle.od_sync.specs.Findings.{digest_at, found_by, found_file, found_folder, found_in, listing_at}
 use Rattle.od_sync.specs.Scans.{IsLook, Looked, Looks, is_root_listing}
-use Rattle.od_sync.specs.Visits.{Shows, Sees, Begins, Turn, Visits, step_of, digest_at, listing_at, found_file, found_folder, pushed, pushed_if}
+use Rattle.od_sync.specs.Visits.{Shows, Sees, Begins, Turn, Visits, step_of, pushed, pushed_if}
 use Rattle.od_sync.specs.declared.scanning.Node.{Node}
 use Rattle.od_sync.specs.declared.scanning.Node.TheVariants.{Folder, File}
 
@@ -39,39 +41,84 @@ looks-edits : (edits : List UserEdit) → AllByRecursion IsLook (map (λ (edit :
 looks-edits [] = tt
 looks-edits (edit ∷ edits) = (tt, looks-edits edits)
 
-by-edits : (old : List LocalStep) (edits : List UserEdit) (after : Option (List LocalStep)) → after ≡ Some (edited old edits) → Looked old after
-by-edits old edits after is = record { part = map (λ (edit : UserEdit). User edit) edits; looks = looks-edits edits; grown = is }
+-- ---- how often the root is listed
+listed-edits : (edits : List UserEdit) → count_by is_root_listing (map (λ (edit : UserEdit). User edit) edits) ≡ 0
+listed-edits [] = refl
+listed-edits (edit ∷ edits) = listed-edits edits
 
-abbrev by-op : (call : TreeOp) (old : List LocalStep) (edits : List UserEdit) (after : Option (List LocalStep)) → IsLook (Op call) → after ≡ Some (with_op old edits call) → Looked old after
-by-op call old edits after look is = record {
-  part = map (λ (edit : UserEdit). User edit) edits ++ Op call ∷ [];
-  looks = looks-append (map (λ (edit : UserEdit). User edit) edits) (Op call ∷ []) (looks-edits edits) (look, tt);
-  grown = is ∙ ap (λ log. Some log) (append_assoc old (map (λ (edit : UserEdit). User edit) edits) (Op call ∷ []));
+listed-append : (a b : ℕ) (steps more : List LocalStep) → count_by is_root_listing steps ≤ a → count_by is_root_listing more ≤ b → count_by is_root_listing (steps ++ more) ≤ a + b
+listed-append a b steps more first second = omega (arith, sum_by-append (λ step. cond (is_root_listing step) 1 0) steps more, first, second)
+
+-- a call that lists the root so many times at most
+abbrev IsListing : ℕ → TreeOp → Type 0
+IsListing listings call = count_by is_root_listing (Op call ∷ []) ≤ listings
+
+pub listing-read : (at : List (List ℕ)) → IsListing 0 (op.Read at)
+listing-read at = omega arith
+
+pub listing-once : (at : List (List ℕ)) → IsListing 1 (op.List at)
+listing-once [] = omega arith
+listing-once (name ∷ at) = omega arith
+
+pub listing-below : (at : List (List ℕ)) → 0 < length at → IsListing 0 (op.List at)
+listing-below [] named = absurd (omega arith)
+listing-below (name ∷ at) named = omega arith
+
+-- ---- the log grows by steps that look
+by-edits : (listings : ℕ) (old : List LocalStep) (edits : List UserEdit) (after : Option (List LocalStep)) → after ≡ Some (edited old edits) → Looked listings old after
+by-edits listings old edits after is = record {
+  part = map (λ (edit : UserEdit). User edit) edits;
+  looks = looks-edits edits;
+  listed = omega (arith, listed-edits edits);
+  grown = is;
 }
 
-either-way : (call : TreeOp) (old : List LocalStep) (edits : List UserEdit) (after : Option (List LocalStep)) → IsLook (Op call)
-    → (after ≡ Some (edited old edits)) ⊎ (after ≡ Some (with_op old edits call)) → Looked old after
-either-way call old edits after look (inl without) = by-edits old edits after without
-either-way call old edits after look (inr done) = by-op call old edits after look done
+abbrev by-op : (listings : ℕ) (call : TreeOp) (old : List LocalStep) (edits : List UserEdit) (after : Option (List LocalStep)) → IsLook (Op call) → IsListing listings call → after ≡ Some (with_op old edits call) → Looked listings old after
+by-op listings call old edits after look listing is =
+    let user : List LocalStep = map (λ (edit : UserEdit). User edit) edits in
+    record {
+      part = user ++ Op call ∷ [];
+      looks = looks-append user (Op call ∷ []) (looks-edits edits) (look, tt);
+      listed = omega (arith, listed-append 0 listings user (Op call ∷ []) (omega (arith, listed-edits edits)) listing);
+      grown = is ∙ ap (λ log. Some log) (append_assoc old user (Op call ∷ []));
+    }
 
-pub looks-ok : {T : Type 0} (call : TreeOp) (Value : Local → T → Type 0) (before after : Option (List LocalStep)) (x : T) → IsLook (Op call) → Calls call Value before after (Ok x) → Looks before after
-looks-ok call Value before after x look calls =
-    record { told = λ old told. let done = calls.ok old told in by-op call old done.0 after look done.1 }
+either-way : (listings : ℕ) (call : TreeOp) (old : List LocalStep) (edits : List UserEdit) (after : Option (List LocalStep)) → IsLook (Op call) → IsListing listings call
+    → (after ≡ Some (edited old edits)) ⊎ (after ≡ Some (with_op old edits call)) → Looked listings old after
+either-way listings call old edits after look listing (inl without) = by-edits listings old edits after without
+either-way listings call old edits after look listing (inr done) = by-op listings call old edits after look listing done
 
-pub looks-err : {T : Type 0} (call : TreeOp) (Value : Local → T → Type 0) (before after : Option (List LocalStep)) (fault : TreeFault) → IsLook (Op call) → Calls call Value before after (Err fault) → Looks before after
-looks-err call Value before after fault look calls =
-    record { told = λ old told. let done = calls.err old told in either-way call old done.0 after look done.1 }
+pub looks-ok : {T : Type 0} (listings : ℕ) (call : TreeOp) (Value : Local → T → Type 0) (before after : Option (List LocalStep)) (x : T) → IsLook (Op call) → IsListing listings call
+    → Calls call Value before after (Ok x) → Looks listings before after
+looks-ok listings call Value before after x look listing calls =
+    record { told = λ old told. let done = calls.ok old told in by-op listings call old done.0 after look listing done.1 }
 
-pub looks-then : (before middle after : Option (List LocalStep)) → Looks before middle → Looks middle after → Looks before after
-looks-then before middle after first second = record {
+pub looks-err : {T : Type 0} (listings : ℕ) (call : TreeOp) (Value : Local → T → Type 0) (before after : Option (List LocalStep)) (fault : TreeFault) → IsLook (Op call) → IsListing listings call
+    → Calls call Value before after (Err fault) → Looks listings before after
+looks-err listings call Value before after fault look listing calls =
+    record { told = λ old told. let done = calls.err old told in either-way listings call old done.0 after look listing done.1 }
+
+pub looks-none : (log : Option (List LocalStep)) → Looks 0 log log
+looks-none log = record { told = λ old told. record { part = []; looks = tt; listed = omega arith; grown = told ∙ ap (λ steps. Some steps) (sym (append-nil old)) } }
+
+pub looks-then : (a b : ℕ) (before middle after : Option (List LocalStep)) → Looks a before middle → Looks b middle after → Looks (a + b) before after
+looks-then a b before middle after first second = record {
   told = λ old told.
       let one = first.told old told in
       let two = second.told (old ++ one.part) one.grown in
       record {
         part = one.part ++ two.part;
         looks = looks-append one.part two.part one.looks two.looks;
+        listed = listed-append a b one.part two.part one.listed two.listed;
         grown = two.grown ∙ ap (λ log. Some log) (append_assoc old one.part two.part);
       };
+}
+
+pub looks-weaker : (a b : ℕ) (before after : Option (List LocalStep)) → a ≤ b → Looks a before after → Looks b before after
+looks-weaker a b before after less looks = record {
+  told = λ old told.
+      let one = looks.told old told in
+      record { part = one.part; looks = one.looks; listed = omega (arith, less, one.listed); grown = one.grown };
 }
 
 -- ---- what a call tells without edits of the user
@@ -145,6 +192,37 @@ shows-no-read at before after fault is calls =
     shows-gone (op.Read at) (λ local (bytes : List ℕ). bytes_in (file_at at local.spots) ≡ Some bytes) (digest_at at) before after fault is calls
     (λ local refused. read-missing (file_at at local.spots) refused)
 
+-- ---- what steps find
+pub found-append : (before steps more : List LocalStep) → found_by before (steps ++ more) ≡ found_by before steps ++ found_by (before ++ steps) more
+found-append before [] more = ap (λ (log : List LocalStep). found_by log more) (sym (append-nil before))
+found-append before (step ∷ steps) more =
+    let here : List (List (List ℕ) × Node) = found_in (local_of before).spots step in
+    let next : List LocalStep = before ++ step ∷ [] in
+    ap (λ (rest : List (List (List ℕ) × Node)). here ++ rest) (found-append next steps more)
+    ∙ ap (λ (log : List LocalStep). here ++ (found_by next steps ++ found_by log more)) (append_assoc before (step ∷ []) steps)
+    ∙ sym (append_assoc here (found_by next steps) (found_by (before ++ step ∷ steps) more))
+
+found-edits : (before : List LocalStep) (edits : List UserEdit) → found_by before (map (λ (edit : UserEdit). User edit) edits) ≡ []
+found-edits before [] = refl
+found-edits before (edit ∷ edits) = found-edits (before ++ User edit ∷ []) edits
+
+-- an operation finds what is added of what it shows
+abbrev Adds : {X : Type 0} → TreeOp → (List Spot → Option X) → (Option X → List (List (List ℕ) × Node)) → Type 0
+Adds call value add = (add None ≡ []) × ((spots : List Spot) → found_in spots (Op call) ≡ add (value spots))
+
+found-op : {X : Type 0} (call : TreeOp) (value : List Spot → Option X) (add : Option X → List (List (List ℕ) × Node)) (shown : Option X) (before : List LocalStep) → Adds call value add
+    → shown ≡ value (local_of before).spots → found_by before (step_of call shown) ≡ add shown
+found-op call value add None before adds is = sym adds.0
+found-op call value add (Some x) before adds is =
+    append-nil (found_in (local_of before).spots (Op call)) ∙ adds.1 (local_of before).spots ∙ ap add (sym is)
+
+found-shown : {X : Type 0} (call : TreeOp) (value : List Spot → Option X) (add : Option X → List (List (List ℕ) × Node)) (shown : Option X) (old : List LocalStep) (edits : List UserEdit) → Adds call value add
+    → shown ≡ value (local_of (edited old edits)).spots → found_by old (map (λ (edit : UserEdit). User edit) edits ++ step_of call shown) ≡ add shown
+found-shown call value add shown old edits adds is =
+    found-append old (map (λ (edit : UserEdit). User edit) edits) (step_of call shown)
+    ∙ ap (λ (front : List (List (List ℕ) × Node)). front ++ found_by (edited old edits) (step_of call shown)) (found-edits old edits)
+    ∙ found-op call value add shown (edited old edits) adds is
+
 -- ---- what is seen below the root
 edits-below : (edits : List UserEdit) → list_any is_root_listing (map (λ (edit : UserEdit). User edit) edits) ≡ false
 edits-below [] = refl
@@ -166,9 +244,9 @@ either-below : {X : Type 0} (call : TreeOp) (shown : Option X) → is_root_listi
 either-below call None below = refl
 either-below call (Some x) below = ap (λ b. b || false) below
 
-sees-shown : {X : Type 0} (call : TreeOp) (value : List Spot → Option X) (shown : Option X) (before after : Option (List LocalStep)) → IsLook (Op call) → is_root_listing (Op call) ≡ false
-    → Shows call value shown before after → Sees (λ spots. shown ≡ value spots) before after
-sees-shown call value shown before after look below shows = record {
+sees-shown : {X : Type 0} (call : TreeOp) (value : List Spot → Option X) (add : Option X → List (List (List ℕ) × Node)) (shown : Option X) (found now : List (List (List ℕ) × Node)) (before after : Option (List LocalStep)) → IsLook (Op call) → is_root_listing (Op call) ≡ false
+    → Adds call value add → now ≡ found ++ add shown → Shows call value shown before after → Sees found now (λ spots. shown ≡ value spots) before after
+sees-shown call value add shown found now before after look below adds now_is shows = record {
   told = λ old told.
       let seen = shows.told old told in
       let user : List LocalStep = map (λ (edit : UserEdit). User edit) seen.edits in
@@ -177,19 +255,23 @@ sees-shown call value shown before after look below shows = record {
         looks = looks-append user (step_of call shown) (looks-edits seen.edits) (either-look call shown look);
         below = below-append user (step_of call shown) (edits-below seen.edits) (either-below call shown below);
         grown = seen.grown ∙ ap (λ log. Some log) (append_assoc old user (step_of call shown));
+        found_is = now_is ∙ ap (λ (more : List (List (List ℕ) × Node)). found ++ more) (sym (found-shown call value add shown old seen.edits adds seen.shown_is));
         fact = λ alone. at-old (λ (local : Local). shown ≡ value local.spots) old seen.edits (no-edits seen.edits (step_of call shown) alone) seen.shown_is;
       };
 }
 
-pub sees-file : (at : List (List ℕ)) (digest : Option Digest) (before after : Option (List LocalStep)) → Shows (op.Read at) (digest_at at) digest before after → Sees (λ spots. digest ≡ digest_at at spots) before after
-sees-file at digest before after shows = sees-shown (op.Read at) (digest_at at) digest before after tt refl shows
+pub sees-file : (at : List (List ℕ)) (digest : Option Digest) (found now : List (List (List ℕ) × Node)) (before after : Option (List LocalStep)) → now ≡ found ++ found_file at digest
+    → Shows (op.Read at) (digest_at at) digest before after → Sees found now (λ spots. digest ≡ digest_at at spots) before after
+sees-file at digest found now before after now_is shows =
+    sees-shown (op.Read at) (digest_at at) (found_file at) digest found now before after tt refl (refl, λ spots. refl) now_is shows
 
-pub sees-folder : (at : List (List ℕ)) (entries : Option (List Entry)) (before after : Option (List LocalStep)) → 0 < length at
-    → Shows (op.List at) (listing_at at) entries before after → Sees (λ spots. entries ≡ listing_at at spots) before after
-sees-folder at entries before after named shows = sees-shown (op.List at) (listing_at at) entries before after tt (not-root at named) shows
+pub sees-folder : (at : List (List ℕ)) (entries : Option (List Entry)) (found now : List (List (List ℕ) × Node)) (before after : Option (List LocalStep)) → 0 < length at → now ≡ found ++ found_folder at entries
+    → Shows (op.List at) (listing_at at) entries before after → Sees found now (λ spots. entries ≡ listing_at at spots) before after
+sees-folder at entries found now before after named now_is shows =
+    sees-shown (op.List at) (listing_at at) (found_folder at) entries found now before after tt (not-root at named) (refl, λ spots. refl) now_is shows
 
-pub sees-so : (Fact Next : List Spot → Type 0) (before after : Option (List LocalStep)) → ((spots : List Spot) → Fact spots → Next spots) → Sees Fact before after → Sees Next before after
-sees-so Fact Next before after then sees = record {
+pub sees-so : (Fact Next : List Spot → Type 0) (found now : List (List (List ℕ) × Node)) (before after : Option (List LocalStep)) → ((spots : List Spot) → Fact spots → Next spots) → Sees found now Fact before after → Sees found now Next before after
+sees-so Fact Next found now before after then sees = record {
   told = λ old told.
       let seen = sees.told old told in
       record {
@@ -197,6 +279,7 @@ sees-so Fact Next before after then sees = record {
         looks = seen.looks;
         below = seen.below;
         grown = seen.grown;
+        found_is = seen.found_is;
         fact = λ alone. then (local_of old).spots (seen.fact alone);
       };
 }
@@ -232,36 +315,40 @@ alone-second (step ∷ a) b alone = alone-second a b alone.1
 
 -- ---- a visit
 pub found-some : (at : List (List ℕ)) (digest : Option Digest) (one : Digest) (found now : List (List (List ℕ) × Node)) (before after : Option (List LocalStep)) → digest ≡ Some one → now ≡ found ++ (at, File one) ∷ []
-    → Shows (op.Read at) (digest_at at) digest before after → Sees (λ spots. now ≡ found ++ found_file at (digest_at at spots)) before after
+    → Shows (op.Read at) (digest_at at) digest before after → Sees found now (λ spots. now ≡ found ++ found_file at (digest_at at spots)) before after
 found-some at digest one found now before after is pushed_is shows =
-    sees-so (λ spots. digest ≡ digest_at at spots) (λ spots. now ≡ found ++ found_file at (digest_at at spots)) before after
-    (λ spots same. pushed_is ∙ ap (λ (d : Option Digest). found ++ found_file at d) (sym is ∙ same)) (sees-file at digest before after shows)
+    let now_is : now ≡ found ++ found_file at digest = pushed_is ∙ ap (λ (d : Option Digest). found ++ found_file at d) (sym is) in
+    sees-so (λ spots. digest ≡ digest_at at spots) (λ spots. now ≡ found ++ found_file at (digest_at at spots)) found now before after
+    (λ spots same. now_is ∙ ap (λ (d : Option Digest). found ++ found_file at d) same) (sees-file at digest found now before after now_is shows)
 
 pub found-none : (at : List (List ℕ)) (digest : Option Digest) (found : List (List (List ℕ) × Node)) (before after : Option (List LocalStep)) → digest ≡ None
-    → Shows (op.Read at) (digest_at at) digest before after → Sees (λ spots. found ≡ found ++ found_file at (digest_at at spots)) before after
+    → Shows (op.Read at) (digest_at at) digest before after → Sees found found (λ spots. found ≡ found ++ found_file at (digest_at at spots)) before after
 found-none at digest found before after is shows =
-    sees-so (λ spots. digest ≡ digest_at at spots) (λ spots. found ≡ found ++ found_file at (digest_at at spots)) before after
-    (λ spots same. sym (append-nil found) ∙ ap (λ (d : Option Digest). found ++ found_file at d) (sym is ∙ same)) (sees-file at digest before after shows)
+    let now_is : found ≡ found ++ found_file at digest = sym (append-nil found) ∙ ap (λ (d : Option Digest). found ++ found_file at d) (sym is) in
+    sees-so (λ spots. digest ≡ digest_at at spots) (λ spots. found ≡ found ++ found_file at (digest_at at spots)) found found before after
+    (λ spots same. now_is ∙ ap (λ (d : Option Digest). found ++ found_file at d) same) (sees-file at digest found found before after now_is shows)
 
 pub listed-some : (at : List (List ℕ)) (entries : Option (List Entry)) (some : List Entry) (found now : List (List (List ℕ) × Node)) (stack stack_now : List Turn) (before after : Option (List LocalStep)) → 0 < length at → entries ≡ Some some
-    → now ≡ found ++ (at, Folder) ∷ [] → stack_now ≡ pushed at some stack → Shows (op.List at) (listing_at at) entries before after → Sees (Visits at true found now stack stack_now) before after
+    → now ≡ found ++ (at, Folder) ∷ [] → stack_now ≡ pushed at some stack → Shows (op.List at) (listing_at at) entries before after → Sees found now (Visits at true found now stack stack_now) before after
 listed-some at entries some found now stack stack_now before after named is pushed_is waits shows =
-    sees-so (λ spots. entries ≡ listing_at at spots) (Visits at true found now stack stack_now) before after
+    let now_is : now ≡ found ++ found_folder at entries = pushed_is ∙ ap (λ (l : Option (List Entry)). found ++ found_folder at l) (sym is) in
+    sees-so (λ spots. entries ≡ listing_at at spots) (Visits at true found now stack stack_now) found now before after
     (λ spots same. record {
-      found_is = pushed_is ∙ ap (λ (l : Option (List Entry)). found ++ found_folder at l) (sym is ∙ same);
+      found_is = now_is ∙ ap (λ (l : Option (List Entry)). found ++ found_folder at l) same;
       waiting_is = waits ∙ ap (λ (l : Option (List Entry)). pushed_if at l stack) (sym is ∙ same);
     })
-    (sees-folder at entries before after named shows)
+    (sees-folder at entries found now before after named now_is shows)
 
 pub listed-none : (at : List (List ℕ)) (entries : Option (List Entry)) (found : List (List (List ℕ) × Node)) (stack : List Turn) (before after : Option (List LocalStep)) → 0 < length at → entries ≡ None
-    → Shows (op.List at) (listing_at at) entries before after → Sees (Visits at true found found stack stack) before after
+    → Shows (op.List at) (listing_at at) entries before after → Sees found found (Visits at true found found stack stack) before after
 listed-none at entries found stack before after named is shows =
-    sees-so (λ spots. entries ≡ listing_at at spots) (Visits at true found found stack stack) before after
+    let now_is : found ≡ found ++ found_folder at entries = sym (append-nil found) ∙ ap (λ (l : Option (List Entry)). found ++ found_folder at l) (sym is) in
+    sees-so (λ spots. entries ≡ listing_at at spots) (Visits at true found found stack stack) found found before after
     (λ spots same. record {
-      found_is = sym (append-nil found) ∙ ap (λ (l : Option (List Entry)). found ++ found_folder at l) (sym is ∙ same);
+      found_is = now_is ∙ ap (λ (l : Option (List Entry)). found ++ found_folder at l) same;
       waiting_is = ap (λ (l : Option (List Entry)). pushed_if at l stack) (sym is ∙ same);
     })
-    (sees-folder at entries before after named shows)
+    (sees-folder at entries found found before after named now_is shows)
 
 -- ---- the root
 begins-at : (entries : Option (List Entry)) (some : List Entry) (stack stack_now : List Turn) (before after : Option (List LocalStep)) → entries ≡ Some some → stack_now ≡ pushed [] some stack
@@ -292,15 +379,15 @@ root-none root entries stack before after root_is is shows = record {
 }
 
 pub file-visit : (at : List (List ℕ)) (folder : Bool) (found now : List (List (List ℕ) × Node)) (stack : List Turn) (before after : Option (List LocalStep)) → folder ≡ false
-    → Sees (λ spots. now ≡ found ++ found_file at (digest_at at spots)) before after → Sees (Visits at folder found now stack stack) before after
+    → Sees found now (λ spots. now ≡ found ++ found_file at (digest_at at spots)) before after → Sees found now (Visits at folder found now stack stack) before after
 file-visit at folder found now stack before after is sees =
-    sees-so (λ spots. now ≡ found ++ found_file at (digest_at at spots)) (Visits at folder found now stack stack) before after
+    sees-so (λ spots. now ≡ found ++ found_file at (digest_at at spots)) (Visits at folder found now stack stack) found now before after
     (λ spots same. subst (λ b. Visits at b found now stack stack spots) (sym is) (record { found_is = same; waiting_is = refl })) sees
 
 pub folder-visit : (at : List (List ℕ)) (folder : Bool) (found now : List (List (List ℕ) × Node)) (stack stack_now : List Turn) (before after : Option (List LocalStep)) → folder ≡ true
-    → Sees (Visits at true found now stack stack_now) before after → Sees (Visits at folder found now stack stack_now) before after
+    → Sees found now (Visits at true found now stack stack_now) before after → Sees found now (Visits at folder found now stack stack_now) before after
 folder-visit at folder found now stack stack_now before after is sees =
-    subst (λ b. Sees (Visits at b found now stack stack_now) before after) (sym is) sees
+    subst (λ b. Sees found now (Visits at b found now stack stack_now) before after) (sym is) sees
 
 pub on-ok : {T E : Type 0} (result : Result T E) (P Q : Type 0) → (P → Q) → OnOk result P → OnOk result Q
 on-ok (Ok x) P Q so holds = so holds

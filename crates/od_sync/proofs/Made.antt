@@ -15,52 +15,101 @@ use Rattle.od_tree.specs.declared.step.LocalStep.TheVariants.{User, Op}
 use Rattle.od_tree.specs.declared.step.TreeOp.{TreeOp}
 use Rattle.od_tree.specs.declared.step.TreeOp.TheVariants as op
 use Rattle.od_tree.proofs.Steps.{local-snoc}
-use Rattle.od_sync.specs.Doing.{CanStand, IsMaking, Made, Makes, placed_file}
+use Rattle.od_sync.specs.Doing.{CanStand, IsMaking, IsMakingOf, Made, Makes, placed_file}
 use Rattle.od_sync.specs.Making.{MakesOne, PlacesOne}
-use Rattle.od_sync.proofs.EachStep.{each-both, each-first, each-second}
+use Rattle.od_sync.proofs.EachStep.{each-also, each-both, each-first, each-second}
 
 -- ---- how the log grows
-makes-edits : (edits : List UserEdit) → AllByRecursion IsMaking (map (λ (edit : UserEdit). User edit) edits)
-makes-edits [] = tt
-makes-edits (edit ∷ edits) = (tt, makes-edits edits)
+module _ (IsFolder : List (List ℕ) → Type 0) (IsFile : List (List ℕ) → List ℕ → Type 0) where
+  edits-make : (edits : List UserEdit) → AllByRecursion (IsMakingOf IsFolder IsFile) (map (λ (edit : UserEdit). User edit) edits)
+  edits-make [] = tt
+  edits-make (edit ∷ edits) = (tt, edits-make edits)
 
-by-edits : (old : List LocalStep) (edits : List UserEdit) (after : Option (List LocalStep)) → after ≡ Some (edited old edits) → Made old after
-by-edits old edits after is = record { part = map (λ (edit : UserEdit). User edit) edits; makes = makes-edits edits; grown = is }
+  by-edits : (old : List LocalStep) (edits : List UserEdit) (after : Option (List LocalStep)) → after ≡ Some (edited old edits) → Made IsFolder IsFile old after
+  by-edits old edits after is = record { part = map (λ (edit : UserEdit). User edit) edits; makes = edits-make edits; grown = is }
 
-by-op : (call : TreeOp) (old : List LocalStep) (edits : List UserEdit) (after : Option (List LocalStep)) → IsMaking (Op call) → after ≡ Some (with_op old edits call) → Made old after
-by-op call old edits after makes is = record {
-  part = map (λ (edit : UserEdit). User edit) edits ++ Op call ∷ [];
-  makes = each-both IsMaking (map (λ (edit : UserEdit). User edit) edits) (Op call ∷ []) (makes-edits edits) (makes, tt);
-  grown = is ∙ ap (λ log. Some log) (append_assoc old (map (λ (edit : UserEdit). User edit) edits) (Op call ∷ []));
-}
+  by-op : (call : TreeOp) (old : List LocalStep) (edits : List UserEdit) (after : Option (List LocalStep)) → IsMakingOf IsFolder IsFile (Op call) → after ≡ Some (with_op old edits call) → Made IsFolder IsFile old after
+  by-op call old edits after makes is = record {
+    part = map (λ (edit : UserEdit). User edit) edits ++ Op call ∷ [];
+    makes = each-both (IsMakingOf IsFolder IsFile) (map (λ (edit : UserEdit). User edit) edits) (Op call ∷ []) (edits-make edits) (makes, tt);
+    grown = is ∙ ap (λ log. Some log) (append_assoc old (map (λ (edit : UserEdit). User edit) edits) (Op call ∷ []));
+  }
 
-either-way : (call : TreeOp) (old : List LocalStep) (edits : List UserEdit) (after : Option (List LocalStep)) → IsMaking (Op call)
-    → (after ≡ Some (edited old edits)) ⊎ (after ≡ Some (with_op old edits call)) → Made old after
-either-way call old edits after makes (inl without) = by-edits old edits after without
-either-way call old edits after makes (inr done) = by-op call old edits after makes done
+  either-way : (call : TreeOp) (old : List LocalStep) (edits : List UserEdit) (after : Option (List LocalStep)) → IsMakingOf IsFolder IsFile (Op call)
+      → (after ≡ Some (edited old edits)) ⊎ (after ≡ Some (with_op old edits call)) → Made IsFolder IsFile old after
+  either-way call old edits after makes (inl without) = by-edits old edits after without
+  either-way call old edits after makes (inr done) = by-op call old edits after makes done
 
-pub makes-ok : {T : Type 0} (call : TreeOp) (Value : Local → T → Type 0) (before after : Option (List LocalStep)) (x : T) → IsMaking (Op call) → Calls call Value before after (Ok x) → Makes before after
-makes-ok call Value before after x makes calls =
-    record { told = λ old told. let done = calls.ok old told in by-op call old done.0 after makes done.1 }
+pub makes-ok : {T : Type 0} {IsFolder : List (List ℕ) → Type 0} {IsFile : List (List ℕ) → List ℕ → Type 0} (call : TreeOp) (Value : Local → T → Type 0) (before after : Option (List LocalStep)) (x : T)
+    → IsMakingOf IsFolder IsFile (Op call) → Calls call Value before after (Ok x) → Makes IsFolder IsFile before after
+makes-ok {T} {IsFolder} {IsFile} call Value before after x makes calls =
+    record { told = λ old told. let done = calls.ok old told in by-op IsFolder IsFile call old done.0 after makes done.1 }
 
-pub makes-err : {T : Type 0} (call : TreeOp) (Value : Local → T → Type 0) (before after : Option (List LocalStep)) (fault : TreeFault) → IsMaking (Op call) → Calls call Value before after (Err fault) → Makes before after
-makes-err call Value before after fault makes calls =
-    record { told = λ old told. let done = calls.err old told in either-way call old done.0 after makes done.1 }
+pub makes-err : {T : Type 0} {IsFolder : List (List ℕ) → Type 0} {IsFile : List (List ℕ) → List ℕ → Type 0} (call : TreeOp) (Value : Local → T → Type 0) (before after : Option (List LocalStep)) (fault : TreeFault)
+    → IsMakingOf IsFolder IsFile (Op call) → Calls call Value before after (Err fault) → Makes IsFolder IsFile before after
+makes-err {T} {IsFolder} {IsFile} call Value before after fault makes calls =
+    record { told = λ old told. let done = calls.err old told in either-way IsFolder IsFile call old done.0 after makes done.1 }
 
-pub makes-none : (log : Option (List LocalStep)) → Makes log log
+pub makes-none : {IsFolder : List (List ℕ) → Type 0} {IsFile : List (List ℕ) → List ℕ → Type 0} (log : Option (List LocalStep)) → Makes IsFolder IsFile log log
 makes-none log = record { told = λ old told. record { part = []; makes = tt; grown = told ∙ ap (λ steps. Some steps) (sym (append-nil old)) } }
 
-pub makes-then : (before now after : Option (List LocalStep)) → Makes before now → Makes now after → Makes before after
-makes-then before now after first second = record {
+pub makes-then : {IsFolder : List (List ℕ) → Type 0} {IsFile : List (List ℕ) → List ℕ → Type 0} (before now after : Option (List LocalStep))
+    → Makes IsFolder IsFile before now → Makes IsFolder IsFile now after → Makes IsFolder IsFile before after
+makes-then {IsFolder} {IsFile} before now after first second = record {
   told = λ old told.
       let one = first.told old told in
       let two = second.told (old ++ one.part) one.grown in
       record {
         part = one.part ++ two.part;
-        makes = each-both IsMaking one.part two.part one.makes two.makes;
+        makes = each-both (IsMakingOf IsFolder IsFile) one.part two.part one.makes two.makes;
         grown = two.grown ∙ ap (λ log. Some log) (append_assoc old one.part two.part);
       };
 }
+
+-- ---- what is made is also what more may be made of
+making-so : (IsFolder NowFolder : List (List ℕ) → Type 0) (IsFile NowFile : List (List ℕ) → List ℕ → Type 0) → ((at : List (List ℕ)) → IsFolder at → NowFolder at)
+    → ((at : List (List ℕ)) (bytes : List ℕ) → IsFile at bytes → NowFile at bytes) → (step : LocalStep) → IsMakingOf IsFolder IsFile step → IsMakingOf NowFolder NowFile step
+making-so IsFolder NowFolder IsFile NowFile folder file (User edit) makes = tt
+making-so IsFolder NowFolder IsFile NowFile folder file (Op (op.List at)) makes = makes
+making-so IsFolder NowFolder IsFile NowFile folder file (Op (op.Read at)) makes = makes
+making-so IsFolder NowFolder IsFile NowFile folder file (Op (op.MakeDir at)) makes = folder at makes
+making-so IsFolder NowFolder IsFile NowFile folder file (Op (op.RemoveDir at)) makes = makes
+making-so IsFolder NowFolder IsFile NowFile folder file (Op (op.Place at bytes)) makes = file at bytes makes
+making-so IsFolder NowFolder IsFile NowFile folder file (Op (op.Rename from to)) makes = makes
+making-so IsFolder NowFolder IsFile NowFile folder file (Op (op.SetAside at)) makes = makes
+making-so IsFolder NowFolder IsFile NowFile folder file (Op (op.ReadAside aside)) makes = makes
+making-so IsFolder NowFolder IsFile NowFile folder file (Op (op.PutBack aside to)) makes = makes
+making-so IsFolder NowFolder IsFile NowFile folder file (Op (op.Discard aside)) makes = makes
+making-so IsFolder NowFolder IsFile NowFile folder file (Op op.Asides) makes = makes
+
+pub makes-so : {IsFolder NowFolder : List (List ℕ) → Type 0} {IsFile NowFile : List (List ℕ) → List ℕ → Type 0} (before after : Option (List LocalStep)) → ((at : List (List ℕ)) → IsFolder at → NowFolder at)
+    → ((at : List (List ℕ)) (bytes : List ℕ) → IsFile at bytes → NowFile at bytes) → Makes IsFolder IsFile before after → Makes NowFolder NowFile before after
+makes-so {IsFolder} {NowFolder} {IsFile} {NowFile} before after folder file makes = record {
+  told = λ old told.
+      let made = makes.told old told in
+      record {
+        part = made.part;
+        makes = each-also (IsMakingOf IsFolder IsFile) (IsMakingOf NowFolder NowFile) (making-so IsFolder NowFolder IsFile NowFile folder file) made.part made.makes;
+        grown = made.grown;
+      };
+}
+
+making-step : (IsFolder : List (List ℕ) → Type 0) (IsFile : List (List ℕ) → List ℕ → Type 0) (step : LocalStep) → IsMakingOf IsFolder IsFile step → IsMaking step
+making-step IsFolder IsFile (User edit) makes = tt
+making-step IsFolder IsFile (Op (op.List at)) makes = makes
+making-step IsFolder IsFile (Op (op.Read at)) makes = makes
+making-step IsFolder IsFile (Op (op.MakeDir at)) makes = tt
+making-step IsFolder IsFile (Op (op.RemoveDir at)) makes = makes
+making-step IsFolder IsFile (Op (op.Place at bytes)) makes = tt
+making-step IsFolder IsFile (Op (op.Rename from to)) makes = makes
+making-step IsFolder IsFile (Op (op.SetAside at)) makes = makes
+making-step IsFolder IsFile (Op (op.ReadAside aside)) makes = makes
+making-step IsFolder IsFile (Op (op.PutBack aside to)) makes = makes
+making-step IsFolder IsFile (Op (op.Discard aside)) makes = makes
+making-step IsFolder IsFile (Op op.Asides) makes = makes
+
+pub makes-steps : (IsFolder : List (List ℕ) → Type 0) (IsFile : List (List ℕ) → List ℕ → Type 0) (part : List LocalStep) → AllByRecursion (IsMakingOf IsFolder IsFile) part → AllByRecursion IsMaking part
+makes-steps IsFolder IsFile part makes = each-also (IsMakingOf IsFolder IsFile) IsMaking (making-step IsFolder IsFile) part makes
 
 -- ---- one part of a log that is two
 pub record InTwo (old part : List LocalStep) (now after : Option (List LocalStep)) : Type 0 where
@@ -78,10 +127,11 @@ the-same after a b first second = cc (sym first ∙ second)
 pub same-part : (old a b : List LocalStep) (after : Option (List LocalStep)) → after ≡ Some (old ++ a) → after ≡ Some (old ++ b) → a ≡ b
 same-part old a b after first second = append_cancel_left old a b (the-same after (old ++ a) (old ++ b) first second)
 
-pub in-two : (before now after : Option (List LocalStep)) (old part : List LocalStep) → Makes before now → Makes now after → before ≡ Some old → after ≡ Some (old ++ part) → NoUser part → InTwo old part now after
-in-two before now after old part first second told grown alone =
-    let one : Made old now = first.told old told in
-    let two : Made (old ++ one.part) after = second.told (old ++ one.part) one.grown in
+pub in-two : {IsFolder NowFolder : List (List ℕ) → Type 0} {IsFile NowFile : List (List ℕ) → List ℕ → Type 0} (before now after : Option (List LocalStep)) (old part : List LocalStep)
+    → Makes IsFolder IsFile before now → Makes NowFolder NowFile now after → before ≡ Some old → after ≡ Some (old ++ part) → NoUser part → InTwo old part now after
+in-two {IsFolder} {NowFolder} {IsFile} {NowFile} before now after old part first second told grown alone =
+    let one : Made IsFolder IsFile old now = first.told old told in
+    let two : Made NowFolder NowFile (old ++ one.part) after = second.told (old ++ one.part) one.grown in
     let parts : part ≡ one.part ++ two.part =
     same-part old part (one.part ++ two.part) after grown (two.grown ∙ ap (λ log. Some log) (append_assoc old one.part two.part))
     in

@@ -1,42 +1,32 @@
 -- Folder after folder and file after file: what is made so far, and what is left to make, are all that is to be made.
-use Rattle.std.proofs.Common.{◌≡◌, ℕ, ◌+◌, ◌<◌, Bool, true, false, List, [], ◌∷◌, ◌++◌, length, map, take, drop, get_or, add-one, suc, Option, Some, None, Ok, refl, ap, sym, subst, ◌∙◌, append_assoc}
+use Rattle.std.proofs.Common.{◌≡◌, inl, inr, ℕ, ◌+◌, ◌<◌, Bool, true, false, cond, List, [], ◌∷◌, ◌++◌, length, map, take, drop, get_or, add-one, zero, suc, Option, Some, None, Ok, refl, ap, sym, subst, ◌∙◌, append_assoc}
 use Rattle.std.proofs.Math.Seq.{drop-cons}
-use Rattle.std.proofs.lemmas.Bool.{or_left, or_right}
 use Rattle.std.proofs.lemmas.List.{append-nil, map-append, take_more, take_at, drop_at}
-use Rattle.std.proofs.lemmas.List.Elements.{All-nil, All-cons, All-head, All-append, All-take, All-drop, All-weaker}
-use Rattle.std.proofs.lemmas.List.Folds.{list_any-append}
-use Rattle.std.specs.List.{All, AllZip, list_any}
+use Rattle.std.proofs.lemmas.List.Elements.{All-nil, All-cons, All-append, All-contains, All-take, All-drop, Contains-get_or}
+use Rattle.std.specs.List.{All, AllByRecursion, AllZip, Contains}
 use Rattle.std.specs.Option.{option_to_list}
+use Rattle.gd_item.specs.Records.{digest_record}
 use Rattle.od_keeper.specs.Sound.{IsAccepted}
 use Rattle.od_keeper.specs.declared.image.Agreed.TheVariants as agreed
 use Rattle.od_keeper.specs.declared.image.BaseRow.{BaseRow}
 use Rattle.od_transfer.specs.declared.job.Outcome.{Outcome}
-use Rattle.od_tree.specs.Calls.{Calls}
-use Rattle.od_tree.specs.Local.{Local, is_path, local_of, with_spot}
+use Rattle.od_transfer.specs.declared.job.Outcome.TheVariants.{Fetched, Changed, Refused, Lost}
+use Rattle.od_tree.specs.Calls.{Calls, Refuses}
+use Rattle.od_tree.specs.Local.{Local, local_of, with_spot}
 use Rattle.od_tree.specs.Undisturbed.{NoUser}
 use Rattle.od_tree.specs.declared.edit.UserEdit.{UserEdit}
+use Rattle.od_tree.specs.declared.fault.TreeFault.{TreeFault}
 use Rattle.od_tree.specs.declared.local.Spot.{Spot}
 use Rattle.od_tree.specs.declared.step.LocalStep.{LocalStep}
 use Rattle.od_tree.specs.declared.step.LocalStep.TheVariants.{User, Op}
+use Rattle.od_tree.specs.declared.step.TreeOp.{TreeOp}
 use Rattle.od_tree.specs.declared.step.TreeOp.TheVariants as op
-use Rattle.od_sync.specs.Doing.{AreRowsOf, CanMake, CanPlace, CanStand, IsBytes, IsPathOf, Makes, MakesAll, PlacesAll, file_spot, folder_spot, is_below_any, placed_file, placed_row}
-use Rattle.od_sync.specs.Making.{MakesNext, MakesOne, PlacesFetched, PlacesOn, PlacesOne, bytes_of, is_placing, paths_in}
+use Rattle.od_sync.specs.Doing.{AreRowsOf, CanMake, CanPlace, CanStand, GivesRows, IsBroughtTo, IsBytes, IsFetchFit, IsFileAt, IsFolderOf, IsMakingOf, IsPathOf, Makes, MakesAll, NoFile, NoFolder, PlacesAll, PlacesThese, file_spot, folder_spot, placed_file, placed_files, placed_in, placed_row, row_of}
+use Rattle.od_sync.specs.Making.{MakesNext, PlacesFetched, bytes_of}
 use Rattle.od_sync.specs.declared.planning.Fetching.{Fetching}
-use Rattle.od_sync.proofs.Below.{path-self}
-use Rattle.od_sync.proofs.Made.{in-two}
+use Rattle.od_sync.proofs.Made.{in-two, makes-so, makes-then}
 
 -- ---- folders
-pub next-barred : (path : List (List ℕ)) (barred : List (List (List ℕ))) (log : Option (List LocalStep)) → is_below_any barred path ≡ true → MakesNext path barred barred log log
-next-barred path barred log below =
-    record { one = λ old part told grown alone none can. absurd (let here : is_below_any [] path ≡ true = subst (λ tops. is_below_any tops path ≡ true) none below in cc here) }
-
-pub next-made : (path : List (List ℕ)) (barred : List (List (List ℕ))) (before after : Option (List LocalStep)) (made : Bool) → made ≡ true → MakesOne path before after made → MakesNext path barred barred before after
-next-made path barred before after made is one = record { one = λ old part told grown alone none can. (none, (one.one old part told grown alone can).1) }
-
-pub next-not-made : (path : List (List ℕ)) (barred now : List (List (List ℕ))) (before after : Option (List LocalStep)) (made : Bool) → made ≡ false → MakesOne path before after made → MakesNext path barred now before after
-next-not-made path barred now before after made is one =
-    record { one = λ old part told grown alone none can. absurd (cc (is, (one.one old part told grown alone can).0)) }
-
 -- the folders that are left can be made, and make the whole
 pub record MakesLeft (folders left : List (List (List ℕ))) (before now : Option (List LocalStep)) (barred : List (List (List ℕ))) : Type 0 where
   pub all : (old part : List LocalStep) → before ≡ Some old → now ≡ Some (old ++ part) → NoUser part → CanMake (local_of old).spots folders
@@ -56,8 +46,10 @@ abbrev MadeSo : List (List (List ℕ)) → List (List (List ℕ)) → List (List
 MadeSo barred folders left spots log =
     (barred ≡ []) × CanMake (local_of log).spots left × ((local_of log).spots ++ map folder_spot left ≡ spots ++ map folder_spot folders)
 
-makes-next : (folders left : List (List (List ℕ))) (path : List (List ℕ)) (before now after : Option (List LocalStep)) (barred barred_now : List (List (List ℕ)))
-    → MakesLeft folders (path ∷ left) before now barred → Makes before now → Makes now after → MakesNext path barred barred_now now after → MakesLeft folders left before after barred_now
+makes-next : {IsFolder NowFolder : List (List ℕ) → Type 0} {IsFile NowFile : List (List ℕ) → List ℕ → Type 0} (folders left : List (List (List ℕ))) (path : List (List ℕ))
+    (before now after : Option (List LocalStep)) (barred barred_now : List (List (List ℕ)))
+    → MakesLeft folders (path ∷ left) before now barred → Makes IsFolder IsFile before now → Makes NowFolder NowFile now after → MakesNext path barred barred_now now after
+    → MakesLeft folders left before after barred_now
 makes-next folders left path before now after barred barred_now so_far first second next = record {
   all = λ old part told grown alone can.
       let two = in-two before now after old part first second told grown alone in
@@ -70,8 +62,10 @@ makes-next folders left path before now after barred barred_now so_far first sec
       );
 }
 
-pub makes-more : (folders : List (List (List ℕ))) (i : ℕ) (path : List (List ℕ)) (before now after : Option (List LocalStep)) (barred barred_now : List (List (List ℕ))) → i < length folders → path ≡ get_or folders i path
-    → MakesLeft folders (drop i folders) before now barred → Makes before now → Makes now after → MakesNext path barred barred_now now after → MakesLeft folders (drop (i + 1) folders) before after barred_now
+pub makes-more : {IsFolder NowFolder : List (List ℕ) → Type 0} {IsFile NowFile : List (List ℕ) → List ℕ → Type 0} (folders : List (List (List ℕ))) (i : ℕ) (path : List (List ℕ))
+    (before now after : Option (List LocalStep)) (barred barred_now : List (List (List ℕ))) → i < length folders → path ≡ get_or folders i path
+    → MakesLeft folders (drop i folders) before now barred → Makes IsFolder IsFile before now → Makes NowFolder NowFile now after → MakesNext path barred barred_now now after
+    → MakesLeft folders (drop (i + 1) folders) before after barred_now
 makes-more folders i path before now after barred barred_now inside is so_far first second next =
     let here : drop i folders ≡ path ∷ drop (i + 1) folders =
     drop-cons folders i path inside ∙ (ap (λ y. y ∷ drop (suc i) folders) (sym is) ∙ ap (λ j. path ∷ drop j folders) (sym (add-one i)))
@@ -85,18 +79,18 @@ makes-last folders left before now barred none so_far = record {
       (one.0, sym (append-nil (local_of (old ++ part)).spots) ∙ (ap (λ paths. (local_of (old ++ part)).spots ++ map folder_spot paths) (sym none) ∙ one.2));
 }
 
+-- the next folder that is made is among them
+folder-among : (folders : List (List (List ℕ))) (i : ℕ) (path at : List (List ℕ)) → i < length folders → path ≡ get_or folders i path → IsFolderOf (path ∷ []) at → IsFolderOf folders at
+folder-among folders i path at inside is one =
+    let here : Contains folders path = subst (Contains folders) (sym is) (Contains-get_or folders i path inside) in
+    All-contains (Contains folders) (path ∷ []) at (All-cons (Contains folders) path [] here (All-nil (Contains folders))) one
+
+pub folder-then : (folders : List (List (List ℕ))) (i : ℕ) (path : List (List ℕ)) (before now after : Option (List LocalStep)) → i < length folders → path ≡ get_or folders i path
+    → Makes (IsFolderOf folders) NoFile before now → Makes (IsFolderOf (path ∷ [])) NoFile now after → Makes (IsFolderOf folders) NoFile before after
+folder-then folders i path before now after inside is first second =
+    makes-then before now after first (makes-so now after (λ at one. folder-among folders i path at inside is one) (λ at bytes none. none) second)
+
 -- ---- files
-pub fetched-placed : (fetch : Fetching) (fetched : Option (List ℕ)) (bytes : List ℕ) (before after : Option (List LocalStep)) (placed : Bool) → fetched ≡ Some bytes → PlacesOne (fetch.path, bytes) before after placed
-    → PlacesFetched fetch fetched before after
-fetched-placed fetch fetched bytes before after placed is one = record {
-  one = λ came old part told_bytes told grown alone can.
-      let same : bytes ≡ came = cc (sym is ∙ told_bytes) in
-      (one.one old part told grown alone can).1 ∙ ap (λ b. with_spot fetch.path (Some (placed_file b)) (local_of old).spots) same;
-}
-
-pub none-fetched : (fetch : Fetching) (fetched : Option (List ℕ)) (before after : Option (List LocalStep)) → fetched ≡ None → PlacesFetched fetch fetched before after
-none-fetched fetch fetched before after none = record { one = λ bytes old part came told grown alone can. absurd (cc (sym none ∙ came)) }
-
 -- the files that are left can be placed, and make the whole
 pub record FilesLeft (fetches : List Fetching) (outcomes : List Outcome) (spots whole : List Spot) : Type 0 where
   pub files : List (List (List ℕ) × List ℕ)
@@ -140,8 +134,10 @@ left-after fetch fetches outcome outcomes (file ∷ files) spots now whole paths
       spots_are = ap (λ those. those ++ map file_spot files) now_is ∙ append_assoc spots (file_spot file ∷ []) (map file_spot files) ∙ are;
     }
 
-places-next : (batch fetches : List Fetching) (came outcomes : List Outcome) (fetch : Fetching) (outcome : Outcome) (fetched : Option (List ℕ)) (before now after : Option (List LocalStep)) → fetched ≡ bytes_of outcome
-    → PlacesLeft batch (fetch ∷ fetches) came (outcome ∷ outcomes) before now → Makes before now → Makes now after → PlacesFetched fetch fetched now after → PlacesLeft batch fetches came outcomes before after
+places-next : {IsFolder NowFolder : List (List ℕ) → Type 0} {IsFile NowFile : List (List ℕ) → List ℕ → Type 0} (batch fetches : List Fetching) (came outcomes : List Outcome) (fetch : Fetching)
+    (outcome : Outcome) (fetched : Option (List ℕ)) (before now after : Option (List LocalStep)) → fetched ≡ bytes_of outcome
+    → PlacesLeft batch (fetch ∷ fetches) came (outcome ∷ outcomes) before now → Makes IsFolder IsFile before now → Makes NowFolder NowFile now after → PlacesFetched fetch fetched now after
+    → PlacesLeft batch fetches came outcomes before after
 places-next batch fetches came outcomes fetch outcome fetched before now after is so_far first second next = record {
   all = λ files old part told grown alone paths bytes can.
       let two = in-two before now after old part first second told grown alone in
@@ -155,15 +151,49 @@ places-next batch fetches came outcomes fetch outcome fetched before now after i
 first-left : {X : Type 0} (xs : List X) (i : ℕ) (x : X) → i < length xs → x ≡ get_or xs i x → drop i xs ≡ x ∷ drop (i + 1) xs
 first-left xs i x inside is = drop-cons xs i x inside ∙ (ap (λ y. y ∷ drop (suc i) xs) (sym is) ∙ ap (λ j. x ∷ drop j xs) (sym (add-one i)))
 
-pub places-more : (batch : List Fetching) (came : List Outcome) (i : ℕ) (fetch : Fetching) (outcome : Outcome) (fetched : Option (List ℕ)) (before now after : Option (List LocalStep))
-    → i < length batch → fetch ≡ get_or batch i fetch → i < length came → outcome ≡ get_or came i outcome → fetched ≡ bytes_of outcome
-    → PlacesLeft batch (drop i batch) came (drop i came) before now → Makes before now → Makes now after → PlacesFetched fetch fetched now after
+pub places-more : {IsFolder NowFolder : List (List ℕ) → Type 0} {IsFile NowFile : List (List ℕ) → List ℕ → Type 0} (batch : List Fetching) (came : List Outcome) (i : ℕ) (fetch : Fetching) (outcome : Outcome)
+    (fetched : Option (List ℕ)) (before now after : Option (List LocalStep)) → i < length batch → fetch ≡ get_or batch i fetch → i < length came → outcome ≡ get_or came i outcome → fetched ≡ bytes_of outcome
+    → PlacesLeft batch (drop i batch) came (drop i came) before now → Makes IsFolder IsFile before now → Makes NowFolder NowFile now after → PlacesFetched fetch fetched now after
     → PlacesLeft batch (drop (i + 1) batch) came (drop (i + 1) came) before after
 places-more batch came i fetch outcome fetched before now after inside is inside_came is_came same so_far first second next =
     places-next batch (drop (i + 1) batch) came (drop (i + 1) came) fetch outcome fetched before now after same
     (subst (λ left. PlacesLeft batch left came (outcome ∷ drop (i + 1) came) before now) (first-left batch i fetch inside is)
     (subst (λ left. PlacesLeft batch (drop i batch) came left before now) (first-left came i outcome inside_came is_came) so_far))
     first second next
+
+-- the bytes that come for the next path are among those that came
+file-here : (fetch : Fetching) (fetches : List Fetching) (outcome : Outcome) (outcomes : List Outcome) (at : List (List ℕ)) (bytes : List ℕ) → IsFileAt fetch.path (bytes_of outcome) at bytes
+    → IsBroughtTo (fetch ∷ fetches) (outcome ∷ outcomes) at bytes
+file-here fetch fetches (Fetched these) outcomes at bytes is = inl (is.0, ap Fetched (cc is.1))
+file-here fetch fetches Changed outcomes at bytes is = absurd (cc is.1)
+file-here fetch fetches (Refused code) outcomes at bytes is = absurd (cc is.1)
+file-here fetch fetches Lost outcomes at bytes is = absurd (cc is.1)
+
+brought-none : (fetches : List Fetching) (at : List (List ℕ)) (bytes : List ℕ) → IsBroughtTo fetches [] at bytes → ⊥
+brought-none [] at bytes brought = brought
+brought-none (fetch ∷ fetches) at bytes brought = brought
+
+brought-later : (i : ℕ) (fetches : List Fetching) (outcomes : List Outcome) (at : List (List ℕ)) (bytes : List ℕ) → IsBroughtTo (drop i fetches) (drop i outcomes) at bytes → IsBroughtTo fetches outcomes at bytes
+brought-later zero fetches outcomes at bytes brought = brought
+brought-later (suc i) [] outcomes at bytes brought = brought
+brought-later (suc i) (fetch ∷ fetches) [] at bytes brought = absurd (brought-none (drop i fetches) at bytes brought)
+brought-later (suc i) (fetch ∷ fetches) (outcome ∷ outcomes) at bytes brought = inr (brought-later i fetches outcomes at bytes brought)
+
+file-among : (batch : List Fetching) (came : List Outcome) (i : ℕ) (fetch : Fetching) (outcome : Outcome) (at : List (List ℕ)) (bytes : List ℕ)
+    → i < length batch → fetch ≡ get_or batch i fetch → i < length came → outcome ≡ get_or came i outcome → IsFileAt fetch.path (bytes_of outcome) at bytes → IsBroughtTo batch came at bytes
+file-among batch came i fetch outcome at bytes inside is inside_came is_came here =
+    brought-later i batch came at bytes
+    (subst (λ fetches. IsBroughtTo fetches (drop i came) at bytes) (sym (first-left batch i fetch inside is))
+    (subst (λ outcomes. IsBroughtTo (fetch ∷ drop (i + 1) batch) outcomes at bytes) (sym (first-left came i outcome inside_came is_came))
+    (file-here fetch (drop (i + 1) batch) outcome (drop (i + 1) came) at bytes here)))
+
+pub file-then : (batch : List Fetching) (came : List Outcome) (i : ℕ) (fetch : Fetching) (outcome : Outcome) (fetched : Option (List ℕ)) (before now after : Option (List LocalStep))
+    → i < length batch → fetch ≡ get_or batch i fetch → i < length came → outcome ≡ get_or came i outcome → fetched ≡ bytes_of outcome
+    → Makes NoFolder (IsBroughtTo batch came) before now → Makes NoFolder (IsFileAt fetch.path fetched) now after → Makes NoFolder (IsBroughtTo batch came) before after
+file-then batch came i fetch outcome fetched before now after inside is inside_came is_came same first second =
+    makes-then before now after first
+    (makes-so now after (λ at none. none)
+    (λ at bytes here. file-among batch came i fetch outcome at bytes inside is inside_came is_came (here.0, sym same ∙ here.1)) second)
 
 none-left : (fetches : List Fetching) (files : List (List (List ℕ) × List ℕ)) → fetches ≡ [] → AllZip IsPathOf fetches files → files ≡ []
 none-left [] [] none zip = refl
@@ -178,62 +208,113 @@ places-last batch fetches came outcomes before now none so_far = record {
       ∙ (ap (λ (those : List (List (List ℕ) × List ℕ)). (local_of (old ++ part)).spots ++ map file_spot those) (sym (none-left fetches one.files none one.paths)) ∙ one.spots_are);
 }
 
--- ---- the paths on which files were placed
-pub on-none : (before after : Option (List LocalStep)) → Makes before after → PlacesOn [] before after
-on-none before after makes = record {
-  told = λ old told.
-      let made = makes.told old told in record { part = made.part; grown = made.grown; each = All-nil (λ path. list_any (is_placing path) made.part ≡ true) };
-}
+-- ---- the files that steps placed
+pub placed-append : (a b : List LocalStep) → placed_files (a ++ b) ≡ placed_files a ++ placed_files b
+placed-append [] b = refl
+placed-append (step ∷ a) b = ap (λ files. placed_in step ++ files) (placed-append a b) ∙ sym (append_assoc (placed_in step) (placed_files a) (placed_files b))
 
-placed-last : (path : List (List ℕ)) (bytes : List ℕ) (steps : List LocalStep) → list_any (is_placing path) (steps ++ Op (op.Place path bytes) ∷ []) ≡ true
-placed-last path bytes steps =
-    list_any-append (is_placing path) steps (Op (op.Place path bytes) ∷ [])
-    ∙ or_right (list_any (is_placing path) steps) (list_any (is_placing path) (Op (op.Place path bytes) ∷ [])) (or_left (is_path path path) false (path-self path))
+folder-places : (IsFolder : List (List ℕ) → Type 0) (step : LocalStep) → IsMakingOf IsFolder NoFile step → placed_in step ≡ []
+folder-places IsFolder (User edit) makes = refl
+folder-places IsFolder (Op (op.List at)) makes = refl
+folder-places IsFolder (Op (op.Read at)) makes = refl
+folder-places IsFolder (Op (op.MakeDir at)) makes = refl
+folder-places IsFolder (Op (op.RemoveDir at)) makes = refl
+folder-places IsFolder (Op (op.Place at bytes)) makes = absurd makes
+folder-places IsFolder (Op (op.Rename from to)) makes = refl
+folder-places IsFolder (Op (op.SetAside at)) makes = refl
+folder-places IsFolder (Op (op.ReadAside aside)) makes = refl
+folder-places IsFolder (Op (op.PutBack aside to)) makes = refl
+folder-places IsFolder (Op (op.Discard aside)) makes = refl
+folder-places IsFolder (Op op.Asides) makes = refl
 
-pub on-one : {T : Type 0} (path : List (List ℕ)) (bytes : List ℕ) (Value : Local → T → Type 0) (before after : Option (List LocalStep)) (x : T) → Calls (op.Place path bytes) Value before after (Ok x)
-    → PlacesOn (path ∷ []) before after
-on-one path bytes Value before after x calls = record {
+pub places-none : (IsFolder : List (List ℕ) → Type 0) (part : List LocalStep) → AllByRecursion (IsMakingOf IsFolder NoFile) part → placed_files part ≡ []
+places-none IsFolder [] makes = refl
+places-none IsFolder (step ∷ part) makes = ap (λ files. files ++ placed_files part) (folder-places IsFolder step makes.0) ∙ places-none IsFolder part makes.1
+
+edits-place : (edits : List UserEdit) → placed_files (map (λ (edit : UserEdit). User edit) edits) ≡ []
+edits-place [] = refl
+edits-place (edit ∷ edits) = edits-place edits
+
+pub these-one : {T : Type 0} (path : List (List ℕ)) (bytes : List ℕ) (Value : Local → T → Type 0) (before after : Option (List LocalStep)) (x : T) → Calls (op.Place path bytes) Value before after (Ok x)
+    → PlacesThese ((path, bytes) ∷ []) before after
+these-one path bytes Value before after x calls = record {
   told = λ old told.
       let done = calls.ok old told in
       let steps : List LocalStep = map (λ (edit : UserEdit). User edit) done.0 in
-      let part : List LocalStep = steps ++ Op (op.Place path bytes) ∷ [] in
       record {
-        part = part;
+        part = steps ++ Op (op.Place path bytes) ∷ [];
         grown = done.1 ∙ ap (λ log. Some log) (append_assoc old steps (Op (op.Place path bytes) ∷ []));
-        each =
-            All-cons (λ (at : List (List ℕ)). list_any (is_placing at) part ≡ true) path [] (placed-last path bytes steps)
-            (All-nil (λ (at : List (List ℕ)). list_any (is_placing at) part ≡ true));
+        placed = placed-append steps (Op (op.Place path bytes) ∷ []) ∙ ap (λ files. files ++ (path, bytes) ∷ []) (edits-place done.0);
       };
 }
 
-any-first : (path : List (List ℕ)) (first second : List LocalStep) → list_any (is_placing path) first ≡ true → list_any (is_placing path) (first ++ second) ≡ true
-any-first path first second is = list_any-append (is_placing path) first second ∙ or_left (list_any (is_placing path) first) (list_any (is_placing path) second) is
+pub these-none : (call : TreeOp) (before after : Option (List LocalStep)) (fault : TreeFault) → Refuses call before after fault → PlacesThese [] before after
+these-none call before after fault refuses = record {
+  told = λ old told.
+      let done = refuses old told in
+      record { part = map (λ (edit : UserEdit). User edit) done.0; grown = done.1; placed = edits-place done.0 };
+}
 
-any-second : (path : List (List ℕ)) (first second : List LocalStep) → list_any (is_placing path) second ≡ true → list_any (is_placing path) (first ++ second) ≡ true
-any-second path first second is = list_any-append (is_placing path) first second ∙ or_right (list_any (is_placing path) first) (list_any (is_placing path) second) is
+-- ---- the rows of what was placed
+given-these : (rows : List BaseRow) (files : List (List (List ℕ) × List ℕ)) (before after : Option (List LocalStep)) → rows ≡ map row_of files → PlacesThese files before after → GivesRows rows before after
+given-these rows files before after are these = record {
+  told = λ old told.
+      let placed = these.told old told in
+      record { part = placed.part; grown = placed.grown; rows_are = are ∙ ap (map row_of) (sym placed.placed) };
+}
 
-pub on-then : (paths more : List (List (List ℕ))) (before now after : Option (List LocalStep)) → PlacesOn paths before now → PlacesOn more now after → PlacesOn (paths ++ more) before after
-on-then paths more before now after first second = record {
+pub given-one : (fetch : Fetching) (bytes : List ℕ) (row : BaseRow) (before after : Option (List LocalStep)) (placed : Bool) → placed ≡ true → row ≡ placed_row fetch → digest_record bytes ≡ fetch.digest
+    → PlacesThese (cond placed ((fetch.path, bytes) ∷ []) []) before after → GivesRows (row ∷ []) before after
+given-one fetch bytes row before after placed is row_is fit these =
+    given-these (row ∷ []) ((fetch.path, bytes) ∷ []) before after
+    (ap (λ (r : BaseRow). r ∷ []) (row_is ∙ ap (λ digest. record { path = fetch.path; what = agreed.File digest; flight = None }) (sym fit)))
+    (subst (λ p. PlacesThese (cond p ((fetch.path, bytes) ∷ []) []) before after) is these)
+
+pub given-refused : (files : List (List (List ℕ) × List ℕ)) (before after : Option (List LocalStep)) (placed : Bool) → placed ≡ false → PlacesThese (cond placed files []) before after → GivesRows [] before after
+given-refused files before after placed is these = given-these [] [] before after refl (subst (λ p. PlacesThese (cond p files []) before after) is these)
+
+given-then : (rows more : List BaseRow) (before now after : Option (List LocalStep)) → GivesRows rows before now → GivesRows more now after → GivesRows (rows ++ more) before after
+given-then rows more before now after first second = record {
   told = λ old told.
       let one = first.told old told in
       let two = second.told (old ++ one.part) one.grown in
       record {
         part = one.part ++ two.part;
         grown = two.grown ∙ ap (λ log. Some log) (append_assoc old one.part two.part);
-        each =
-            All-append (λ (path : List (List ℕ)). list_any (is_placing path) (one.part ++ two.part) ≡ true) paths more
-            (All-weaker (λ (path : List (List ℕ)). list_any (is_placing path) one.part ≡ true) (λ (path : List (List ℕ)). list_any (is_placing path) (one.part ++ two.part) ≡ true)
-            (λ path is. any-first path one.part two.part is) paths one.each)
-            (All-weaker (λ (path : List (List ℕ)). list_any (is_placing path) two.part ≡ true) (λ (path : List (List ℕ)). list_any (is_placing path) (one.part ++ two.part) ≡ true)
-            (λ path is. any-second path one.part two.part is) more two.each);
+        rows_are =
+            ap (λ those. those ++ more) one.rows_are
+            ∙ (ap (λ those. map row_of (placed_files one.part) ++ those) two.rows_are
+            ∙ (sym (map-append row_of (placed_files one.part) (placed_files two.part)) ∙ ap (map row_of) (sym (placed-append one.part two.part))));
       };
 }
 
-pub on-rows : (rows now : List BaseRow) (row : Option BaseRow) (before middle after : Option (List LocalStep)) → now ≡ rows ++ option_to_list row → PlacesOn (paths_in rows) before middle
-    → PlacesOn (paths_in (option_to_list row)) middle after → PlacesOn (paths_in now) before after
-on-rows rows now row before middle after is first second =
-    subst (λ paths. PlacesOn paths before after) (sym (ap paths_in is ∙ map-append (λ (r : BaseRow). r.path) rows (option_to_list row)))
-    (on-then (paths_in rows) (paths_in (option_to_list row)) before middle after first second)
+pub given-more : (rows now : List BaseRow) (row : Option BaseRow) (before middle after : Option (List LocalStep)) → now ≡ rows ++ option_to_list row → GivesRows rows before middle
+    → GivesRows (option_to_list row) middle after → GivesRows now before after
+given-more rows now row before middle after is first second =
+    subst (λ those. GivesRows those before after) (sym is) (given-then rows (option_to_list row) before middle after first second)
+
+-- ---- what came of a fetch has its digest
+bytes-fit : (fetch : Fetching) (outcome : Outcome) (bytes : List ℕ) → IsFetchFit fetch outcome → bytes_of outcome ≡ Some bytes → digest_record bytes ≡ fetch.digest
+bytes-fit fetch (Fetched these) bytes fit is = subst (λ b. digest_record b ≡ fetch.digest) (cc is) fit
+bytes-fit fetch Changed bytes fit is = absurd (cc is)
+bytes-fit fetch (Refused code) bytes fit is = absurd (cc is)
+bytes-fit fetch Lost bytes fit is = absurd (cc is)
+
+fits-left : (i : ℕ) (batch : List Fetching) (came : List Outcome) → AllZip IsFetchFit batch came → AllZip IsFetchFit (drop i batch) (drop i came)
+fits-left zero batch came fits = fits
+fits-left (suc i) [] [] fits = tt
+fits-left (suc i) [] (outcome ∷ came) fits = absurd fits
+fits-left (suc i) (fetch ∷ batch) [] fits = absurd fits
+fits-left (suc i) (fetch ∷ batch) (outcome ∷ came) fits = fits-left i batch came fits.1
+
+pub fit-here : (batch : List Fetching) (came : List Outcome) (i : ℕ) (fetch : Fetching) (outcome : Outcome) (fetched : Option (List ℕ)) (bytes : List ℕ) → i < length batch → fetch ≡ get_or batch i fetch
+    → i < length came → outcome ≡ get_or came i outcome → fetched ≡ bytes_of outcome → AllZip IsFetchFit batch came → fetched ≡ Some bytes → digest_record bytes ≡ fetch.digest
+fit-here batch came i fetch outcome fetched bytes inside is inside_came is_came same fits came_so =
+    let here : AllZip IsFetchFit (fetch ∷ drop (i + 1) batch) (outcome ∷ drop (i + 1) came) =
+    subst (λ left. AllZip IsFetchFit left (outcome ∷ drop (i + 1) came)) (first-left batch i fetch inside is)
+    (subst (λ left. AllZip IsFetchFit (drop i batch) left) (first-left came i outcome inside_came is_came) (fits-left i batch came fits))
+    in
+    bytes-fit fetch outcome bytes here.0 (sym same ∙ came_so)
 
 -- ---- the rows are those of accepted bytes
 pub all-front : {X : Type 0} (P : X → Type 0) (xs ys : List X) → All P (xs ++ ys) → All P xs
@@ -241,15 +322,6 @@ all-front P xs ys all = subst (λ zs. All P zs) (take_at xs ys (length xs) refl)
 
 pub all-back : {X : Type 0} (P : X → Type 0) (xs ys : List X) → All P (xs ++ ys) → All P ys
 all-back P xs ys all = subst (λ zs. All P zs) (drop_at xs ys (length xs) refl) (All-drop P (length xs) (xs ++ ys) all)
-
-pub rows-none : (fetches : List Fetching) → AreRowsOf fetches []
-rows-none fetches = λ versions accepted. All-nil (λ (row : BaseRow). IsAccepted versions row.what)
-
-pub rows-one : (fetch : Fetching) (row : BaseRow) → row ≡ placed_row fetch → AreRowsOf (fetch ∷ []) (row ∷ [])
-rows-one fetch row is = λ versions accepted.
-    All-cons (λ (r : BaseRow). IsAccepted versions r.what) row []
-    (subst (λ (r : BaseRow). IsAccepted versions r.what) (sym is) (All-head (λ (f : Fetching). IsAccepted versions (agreed.File f.digest)) fetch [] accepted))
-    (All-nil (λ (r : BaseRow). IsAccepted versions r.what))
 
 pub rows-then : (fetches more : List Fetching) (rows others : List BaseRow) → AreRowsOf fetches rows → AreRowsOf more others → AreRowsOf (fetches ++ more) (rows ++ others)
 rows-then fetches more rows others first second = λ versions accepted.

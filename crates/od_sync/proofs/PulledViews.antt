@@ -13,7 +13,7 @@ use Rattle.od_sync.specs.Pulls.{IsView, LastPage, Pulls, StopsBad}
 abbrev last-page : (token asked : Option (List ℕ)) (page : Page) (before after : Option (List Step)) → asked ≡ token → DeltaAsks (Delta asked) before after (Ok page)
     → (old : List Step) → before ≡ Some old → LastPage token old after
 last-page token asked page before after is asks old told =
-    record { page = page; heard = subst (λ t. PageHeard (Delta t) old after page) is (asks.ok old told); last_page = asks.last_page }
+    record { page = page; heard = subst (λ t. PageHeard 2 (Delta t) old after page) is (asks.ok old told); last_page = asks.last_page }
 
 pub pulls-view : (items : List Item) (token asked : Option (List ℕ)) (mirror : Pulled) (page : Page) (view : MirrorView) (before after : Option (List Step)) → mirror ≡ begun items token → asked ≡ mirror.token
     → DeltaAsks (Delta asked) before after (Ok page) → IsView (after_page mirror page) view → Pulls items token before after view

@@ -22,7 +22,7 @@ use Rattle.od_transfer.specs.Asking.{is_last_link}
 use Rattle.od_transfer.specs.Undisturbed.{is_servable}
 use Rattle.od_sync.specs.Ends.{stop_of_pull}
 use Rattle.od_sync.specs.PullChanges.{IsPullChange}
-use Rattle.od_sync.specs.Pulls.{Pulls, PullsView, StopsBad, seen}
+use Rattle.od_sync.specs.Pulls.{Pulls, PullsView, seen}
 use Rattle.od_sync.specs.Receiving.{Got, IsReceived, Keeps, Receives}
 use Rattle.od_sync.specs.declared.ends.SyncStop.{SyncStop}
 use Rattle.od_sync.specs.declared.ends.SyncStop.TheVariants as stop
@@ -78,6 +78,7 @@ got : (image : Image) (received : Received) (view : MirrorView) (drive : List St
 got image received view drive images after images_after pulled is grown = record {
   spent = pulled.last.heard.part;
   such = pulled.last.heard.such;
+  sent = pulled.last.heard.sent;
   drive_grown = pulled.last.heard.grown;
   images_grown = grown;
   sound = λ sound. got-sound image received view drive after pulled is sound;

@@ -1,9 +1,8 @@
 -- What a round comes to, where all logs and images are told.
 use Rattle.std.proofs.Common.{◌≡◌, ℕ, ◌+◌, ◌≤◌, true, false, cond, List, [], ◌∷◌, ◌++◌, map, count_by, Option, Some, None, Ok, Err, refl, ap, sym, subst, ◌∙◌, append_assoc, arith}
-use Rattle.std.proofs.lemmas.List.{append-nil}
 use Rattle.std.proofs.lemmas.List.Sums.{sum_by-cons}
 use Rattle.std.proofs.lemmas.List.Elements.{All-nil, All-cons}
-use Rattle.std.specs.List.{All, AllZip}
+use Rattle.std.specs.List.{All, AllByRecursion, AllZip}
 use Rattle.std.specs.Prelude.{IsErrOf}
 use Rattle.gd_names.specs.Streams.{Rose}
 use Rattle.gd_item.specs.Ids.{item_id}
@@ -18,12 +17,14 @@ use Rattle.gd_item.specs.declared.request.Request.TheVariants.{Delta}
 use Rattle.gd_item.specs.declared.step.Step.{Step}
 use Rattle.od_keeper.proofs.Growing.{sound-stays, sound-empty}
 use Rattle.od_keeper.specs.Images.{applied, by_path, empty_image, put_all, without_paths}
-use Rattle.od_keeper.specs.Keeping.{last_image}
+use Rattle.od_keeper.specs.Keeping.{Stay, last_image}
 use Rattle.od_keeper.specs.Sound.{IsSound, uncounted}
 use Rattle.od_keeper.specs.declared.image.BaseRow.{BaseRow}
 use Rattle.od_keeper.specs.declared.image.Image.{Image}
 use Rattle.od_mirror.specs.Pulled.{paths_of}
 use Rattle.od_transfer.specs.Alone.{AreOwnServed}
+use Rattle.od_transfer.specs.Asking.{Grown, Grows, OwnAre}
+use Rattle.od_transfer.specs.Fits.{IsTransfer}
 use Rattle.od_tree.specs.Calls.{edited}
 use Rattle.od_tree.specs.Local.{Local, local_of, local_tree, tree_of_spots}
 use Rattle.od_tree.specs.Undisturbed.{IsOp, NoUser}
@@ -34,29 +35,41 @@ use Rattle.od_tree.specs.declared.step.LocalStep.TheVariants.{User, Op}
 use Rattle.od_tree.specs.declared.step.TreeOp.TheVariants as op
 use Rattle.od_sync.specs.Agreeing.{agreed_rows, agreement, dropped_paths, landed_rows}
 use Rattle.od_sync.specs.Comparing.{is_same, scanned}
-use Rattle.od_sync.specs.Deltas.{EndsUnserved, last_heard_after}
-use Rattle.od_sync.specs.Doing.{AreAcceptedFetches, CanMake, CanPlace, IsFileOf, file_spot, folder_spot}
+use Rattle.od_sync.specs.Deltas.{AskedDelta, AsksDelta, EndsUnserved, is_answered_delta, is_own_delta, last_heard_after}
+use Rattle.od_sync.specs.Doing.{AreAcceptedFetches, CanMake, CanPlace, IsFetchOf, IsFileOf, IsFolderOf, IsMaking, Made, Makes, file_spot, folder_spot}
 use Rattle.od_sync.specs.FreshPlans.{FreshPlan}
 use Rattle.od_sync.specs.Planning.{planned_fetches, planned_folders}
 use Rattle.od_sync.specs.Rounds.{Acted, Acts, AreKindsAccepted, EndsWithUnserved, Grew, Rounds, RoundsTo}
 use Rattle.od_sync.specs.Syncing.{Goes, IsDoStop, Meets, Met, Went}
-use Rattle.od_sync.specs.Scans.{is_root_listing}
+use Rattle.od_sync.specs.Scans as scan
+use Rattle.od_sync.specs.Scans.{IsLook, is_root_listing}
 use Rattle.od_sync.specs.Pulls.{PullsBad, StopsBad}
-use Rattle.od_sync.specs.Syncs.{EndedBad, Looked, is_answered_delta}
+use Rattle.od_sync.specs.Looks.{AllUnlike, IsWithin, Looked, found_until}
+use Rattle.od_sync.specs.Syncs.{EndedBad, IsFromDrive, since_listed}
 use Rattle.od_sync.specs.declared.ends.SyncStop.{SyncStop}
 use Rattle.od_sync.specs.declared.ends.SyncStop.TheVariants.{BadPages, Unserved}
 use Rattle.od_sync.specs.declared.looking.Sides.{Sides}
 use Rattle.od_sync.specs.declared.planning.Fetching.{Fetching}
 use Rattle.od_sync.specs.declared.scanning.Node.{Node}
-use Rattle.od_sync.proofs.Compares.{answered-keeps, compared-same, edited-none, looks-keep, rest-alone, unlike-before}
+use Rattle.od_sync.proofs.Compares.{answered-keeps, compared-same, edited-none, listed-last, look-same, look-unlike, looks-keep, none-unlike, rest-alone, unlike-before}
 use Rattle.od_sync.proofs.FreshPlans.{fresh_plan}
+use Rattle.od_sync.proofs.HadThen.{had-looks, planned-had}
 use Rattle.od_sync.proofs.KeptPull as pull
 use Rattle.od_sync.proofs.OwnRequests.{own_requests_keep}
 use Rattle.od_sync.proofs.RecordDigests.{record_digest_accepted}
-use Rattle.od_sync.proofs.Growth.{answered, asked-answered, asked-transfers, count-append, each-first, each-second, grew-more, same-more, scan-is-steps, scan-steps}
+use Rattle.od_sync.proofs.Growth.{answered, asked-answered, asked-transfers, count-append, each-first, each-second, grew-more, same-log, same-more, scan-is-steps, scan-looks, scan-steps}
+use Rattle.od_sync.proofs.LooksFound.{unlike-then, until-append, until-makes, until-scan, within-done, within-look}
+use Rattle.od_sync.proofs.Made.{makes-steps}
 use Rattle.od_sync.proofs.PlannedKinds.{IsKindIn, fetches-accepted}
 use Rattle.od_sync.proofs.ServedTokens.{is-served}
 use Rattle.od_sync.proofs.CountsRose.{rose-later}
+
+-- the folder's log grows by what a plan makes after a look
+abbrev PlanMade : Sides → List LocalStep → Option (List LocalStep) → Type 0
+PlanMade sides old after = Made (IsFolderOf (planned_folders sides.image.rows sides.local sides.remote)) (IsFetchOf (planned_fetches sides.image.rows sides.local sides.remote)) old after
+
+abbrev PlanMakes : Sides → Option (List LocalStep) → Option (List LocalStep) → Type 0
+PlanMakes sides before after = Makes (IsFolderOf (planned_folders sides.image.rows sides.local sides.remote)) (IsFetchOf (planned_fetches sides.image.rows sides.local sides.remote)) before after
 
 last-of-two : (images : List Image) (a b : Image) → last_image (images ++ a ∷ b ∷ []) ≡ b
 last-of-two [] a b = refl
@@ -140,6 +153,7 @@ module _ {image : Image} {sides : Sides} {drive : List Step} {local : List Local
     sound = λ sound.
         All-cons (λ (i : Image). IsSound i drive-then) m.pulled (sides.image ∷ []) (sound-stays m.pulled (drive ++ m.spent) (answered image.token) (m.pulled_sound (met-sound sound)))
         (All-cons (λ (i : Image). IsSound i drive-then) sides.image [] (agreed-sound-then sound) (All-nil (λ (i : Image). IsSound i drive-then)));
+    had = λ sound. had-looks drive (m.spent ++ answered image.token) (scan-steps m.edits m.rest) (scan-looks m.edits m.rest m.looks);
   }
 
   pub met-looked : Looked 1 (m.spent ++ answered image.token) (scan-steps m.edits m.rest)
@@ -160,6 +174,34 @@ module _ {image : Image} {sides : Sides} {drive : List Step} {local : List Local
   met-unlike unlike sound own alone same =
       unlike-before local m.edits m.rest drive m.spent image.token m.items sides.local sides.remote m.such (m.mirrors (met-sound sound)) m.remote_is m.local_is unlike own alone same
 
+  -- it is one look, which begins with the listing of the root and ends in looks
+  pub met-within : IsWithin 1 (m.spent ++ answered image.token) (scan-steps m.edits m.rest)
+  met-within = within-look m.spent image.token m.edits m.rest m.such m.sent m.once
+
+  pub met-begins : found_until local (scan-steps m.edits m.rest) ≡ []
+  met-begins = until-scan local m.edits m.rest
+
+  pub met-looks : AllByRecursion IsLook (since_listed local-then)
+  met-looks = subst (λ (steps : List LocalStep). AllByRecursion IsLook steps) (sym (listed-last (edited local m.edits) m.rest m.once)) m.looks
+
+  pub met-found-unlike : is_same sides.local sides.remote ≡ false → IsSound (last_image images) drive → AllUnlike 1 drive (m.spent ++ answered image.token) local (scan-steps m.edits m.rest)
+  met-found-unlike unlike sound =
+      look-unlike drive m.spent image.token local m.edits m.rest m.items sides.local sides.remote m.such m.once (m.mirrors (met-sound sound)) m.remote_is m.found_is unlike
+
+  -- what is planned then is what the drive had
+  made-had : {local_later : Option (List LocalStep)} (later : List Step) (part : List LocalStep)
+      → PlanMade sides local-then local_later
+      → local_later ≡ Some (local-then ++ part) → IsSound (last_image images) drive → AllByRecursion (IsFromDrive drive ((m.spent ++ answered image.token) ++ later)) part
+  made-had {local_later} later part made grown sound =
+      subst (λ (more : List Step). AllByRecursion (IsFromDrive drive more) part) (sym (append_assoc m.spent (answered image.token) later))
+      (subst (λ (steps : List LocalStep). AllByRecursion (IsFromDrive drive (m.spent ++ (answered image.token ++ later))) steps) (same-more local_later local-then made.part part made.grown grown)
+      (planned-had drive m.spent image.token later m.items sides.image.rows sides.local sides.remote made.part (m.mirrors (met-sound sound)) m.remote_is made.makes))
+
+  made-steps : {local_later : Option (List LocalStep)} (part : List LocalStep) → PlanMade sides local-then local_later → local_later ≡ Some (local-then ++ part) → AllByRecursion IsMaking part
+  made-steps {local_later} part made grown =
+      subst (λ (steps : List LocalStep). AllByRecursion IsMaking steps) (same-more local_later local-then made.part part made.grown grown)
+      (makes-steps (IsFolderOf (planned_folders sides.image.rows sides.local sides.remote)) (IsFetchOf (planned_fetches sides.image.rows sides.local sides.remote)) made.part made.makes)
+
   -- both sides are the same
   pub round-settled : (fb fn : ℕ) → is_same sides.local sides.remote ≡ true → RoundsTo fb fn drive local images after local_after images_after (Ok None)
   round-settled fb fn same = record {
@@ -174,9 +216,15 @@ module _ {image : Image} {sides : Sides} {drive : List Step} {local : List Local
     images_told = m.images_grown;
     rounded = record {
       grew = met-grew;
+      within = met-within;
       looked = met-looked;
+      begins = met-begins;
       settled = λ is sound apart alone.
           compared-same (edited local m.edits) m.rest (drive ++ m.spent) image.token m.items sides.local sides.remote m.looks m.once (m.mirrors (met-sound sound)) m.remote_is m.local_is same apart alone;
+      looks = λ is. met-looks;
+      found_same = λ is sound.
+          look-same drive m.spent image.token local m.edits m.rest m.items sides.local sides.remote m.such m.once (m.mirrors (met-sound sound)) m.remote_is m.found_is same;
+      found_unlike = λ next is. absurd (cc is);
       never_bad = λ id is. absurd (cc is);
       bad_pages = λ id is. absurd (cc is);
       unserved = λ is. absurd (cc is);
@@ -196,9 +244,11 @@ module _ {image : Image} {sides : Sides} {drive : List Step} {local : List Local
 
   acted-grew : {next : Image} {fb fn : ℕ} {later : Option (List Step)} {local_later : Option (List LocalStep)} {images_later : Option (List Image)}
       (a : Acted sides next fb fn drive-then local-then images-then later local_later images_later)
+      → PlanMade sides local-then local_later
       → Grew drive ((m.spent ++ answered image.token) ++ a.did.more) (drive-then ++ a.did.more) local (scan-steps m.edits m.rest ++ a.did.part) (local-then ++ a.did.part) images
       ((m.pulled ∷ sides.image ∷ []) ++ a.did.added) (images-then ++ a.did.added)
-  acted-grew a = grew-more a.did.more a.did.part a.did.added met-grew (asked-transfers a.did.more a.did.transfers) a.did.steps (acted-sound a)
+  acted-grew a made =
+      grew-more a.did.more a.did.part a.did.added met-grew (asked-transfers a.did.more a.did.transfers) a.did.steps (acted-sound a) (made-had a.did.more a.did.part made a.did.local_grown)
 
   acted-fresh : {next : Image} {fb fn : ℕ} {later : Option (List Step)} {local_later : Option (List LocalStep)} {images_later : Option (List Image)}
       (a : Acted sides next fb fn drive-then local-then images-then later local_later images_later) → (¬ (Rose fb fn)) → AreOwnServed (m.spent ++ answered image.token) → AreOwnServed a.did.more
@@ -219,8 +269,10 @@ module _ {image : Image} {sides : Sides} {drive : List Step} {local : List Local
       ∙ ap (λ (state : State). tree_of (held state)) (sym (own_requests_keep drive-then a.did.more (asked-transfers a.did.more a.did.transfers) own_later))
 
   pub round-acted : {next : Image} {later : Option (List Step)} {local_later : Option (List LocalStep)} {images_later : Option (List Image)} (fa fb fn : ℕ) → fa ≤ fb → is_same sides.local sides.remote ≡ false
-      → Acted sides next fb fn drive-then local-then images-then later local_later images_later → RoundsTo fa fn drive local images later local_later images_later (Ok (Some next))
-  round-acted {next} {later} {local_later} {images_later} fa fb fn rises unlike a = record {
+      → Acted sides next fb fn drive-then local-then images-then later local_later images_later
+      → PlanMade sides local-then local_later
+      → RoundsTo fa fn drive local images later local_later images_later (Ok (Some next))
+  round-acted {next} {later} {local_later} {images_later} fa fb fn rises unlike a made = record {
     more = (m.spent ++ answered image.token) ++ a.did.more;
     drive_now = drive-then ++ a.did.more;
     part = scan-steps m.edits m.rest ++ a.did.part;
@@ -231,12 +283,22 @@ module _ {image : Image} {sides : Sides} {drive : List Step} {local : List Local
     local_told = a.did.local_grown;
     images_told = a.did.images_grown;
     rounded = record {
-      grew = acted-grew a;
+      grew = acted-grew a made;
+      within = within-done (m.spent ++ answered image.token) a.did.more (scan-steps m.edits m.rest) a.did.part met-within a.did.transfers (made-steps a.did.part made a.did.local_grown);
       looked = record {
         answered = omega (arith, met-looked.answered, count-append is_answered_delta (m.spent ++ answered image.token) a.did.more);
         listed = omega (arith, met-looked.listed, count-append is_root_listing (scan-steps m.edits m.rest) a.did.part);
       };
+      begins =
+          until-append local (scan-steps m.edits m.rest) a.did.part (until-makes (local ++ scan-steps m.edits m.rest) a.did.part (made-steps a.did.part made a.did.local_grown))
+          ∙ met-begins;
       settled = λ is. absurd (cc is);
+      looks = λ is. absurd (cc is);
+      found_same = λ is. absurd (cc is);
+      found_unlike = λ other is sound.
+          let makes : AllByRecursion IsMaking a.did.part = made-steps a.did.part made a.did.local_grown in
+          unlike-then drive (m.spent ++ answered image.token) a.did.more local (scan-steps m.edits m.rest) a.did.part (until-makes (local ++ scan-steps m.edits m.rest) a.did.part makes)
+          (met-found-unlike unlike sound) (none-unlike (drive ++ (m.spent ++ answered image.token)) a.did.more (local ++ scan-steps m.edits m.rest) a.did.part a.did.transfers makes);
       never_bad = λ id is. absurd (cc is);
       bad_pages = λ id is. absurd (cc is);
       unserved = λ is. absurd (cc is);
@@ -253,8 +315,10 @@ module _ {image : Image} {sides : Sides} {drive : List Step} {local : List Local
   -- the plan was stopped
   pub round-act-stopped : {later : Option (List Step)} {local_later : Option (List LocalStep)} {images_later : Option (List Image)} (fa fn : ℕ) (stop : SyncStop) → IsDoStop stop
       → Went (IsSound sides.image drive-then × AreKindsAccepted drive-then sides) drive-then local-then images-then later local_later images_later
+      → Grown IsTransfer drive-then later
+      → PlanMade sides local-then local_later
       → RoundsTo fa fn drive local images later local_later images_later (Err stop)
-  round-act-stopped {later} {local_later} {images_later} fa fn stop is_do w = record {
+  round-act-stopped {later} {local_later} {images_later} fa fn stop is_do w transfers made = record {
     more = (m.spent ++ answered image.token) ++ w.more;
     drive_now = drive-then ++ w.more;
     part = scan-steps m.edits m.rest ++ w.part;
@@ -265,9 +329,17 @@ module _ {image : Image} {sides : Sides} {drive : List Step} {local : List Local
     local_told = w.local_grown;
     images_told = w.images_grown;
     rounded = record {
-      grew = grew-more w.more w.part w.added met-grew w.asked w.steps (λ sound. w.sound (agreed-sound-then sound, met-kinds sound));
+      grew = grew-more w.more w.part w.added met-grew w.asked w.steps (λ sound. w.sound (agreed-sound-then sound, met-kinds sound)) (made-had w.more w.part made w.local_grown);
+      within =
+          within-done (m.spent ++ answered image.token) w.more (scan-steps m.edits m.rest) w.part met-within
+          (subst (λ (steps : List Step). OwnAre IsTransfer steps) (same-more later drive-then transfers.part w.more transfers.grown w.drive_grown) transfers.such)
+          (made-steps w.part made w.local_grown);
       looked = tt;
+      begins = tt;
       settled = λ is. absurd (cc is);
+      looks = λ is. absurd (cc is);
+      found_same = λ is. absurd (cc is);
+      found_unlike = λ next is. absurd (cc is);
       never_bad = λ id is. absurd (do-stop-bad stop id is_do (cc is));
       bad_pages = λ id is. absurd (do-stop-bad stop id is_do (cc is));
       unserved = λ is. absurd (do-stop-unserved stop is_do (cc is));
@@ -285,34 +357,42 @@ ended-unserved token drive more after grown ends = record {
 }
 
 went-grew : {P : Type 0} {drive : List Step} {local : List LocalStep} {images : List Image} {after : Option (List Step)} {local_after : Option (List LocalStep)} {images_after : Option (List Image)}
-    (w : Went P drive local images after local_after images_after) → (IsSound (last_image images) drive → P) → Grew drive w.more (drive ++ w.more) local w.part (local ++ w.part) images w.added (images ++ w.added)
-went-grew w premise = record {
+    (w : Went P drive local images after local_after images_after) → (IsSound (last_image images) drive → P) → AllByRecursion IsLook w.part → Grew drive w.more (drive ++ w.more) local w.part (local ++ w.part) images w.added (images ++ w.added)
+went-grew {drive = drive} w premise looks = record {
   drive_is = refl;
   asked = w.asked;
   local_is = refl;
   steps = w.steps;
   images_are = refl;
   sound = λ sound. w.sound (premise sound);
+  had = λ sound. had-looks drive w.more w.part looks;
 }
 
--- a pull that had a bad item, over the image that was last
-ended-bad : (image : Image) (drive more : List Step) (images added : List Image) (after : Option (List Step)) (id : ItemId) → last_image images ≡ image → after ≡ Some (drive ++ more)
-    → PullsBad image.items image.token drive after id.0 → EndedBad images added (drive ++ more) id
-ended-bad image drive more images added after id last grown bad =
-    let same : image ≡ last_image (images ++ []) = sym (ap last_image (append-nil images) ∙ last) in
+-- a pull that had a bad item, over the image that is last
+ended-bad : (image : Image) (drive more : List Step) (images : List Image) (after : Option (List Step)) (id : ItemId) → last_image images ≡ image → after ≡ Some (drive ++ more)
+    → PullsBad image.items image.token drive after id.0 → EndedBad images (drive ++ more) id
+ended-bad image drive more images after id last grown bad = record {
+  old = drive;
+  bad = subst (λ (i : Image). PullsBad i.items i.token drive (Some (drive ++ more)) id.0) (sym last)
+      (subst (λ (a : Option (List Step)). PullsBad image.items image.token drive a id.0) grown bad);
+}
+
+-- it is one look at most
+stopped-within : (token : Option (List ℕ)) (drive more : List Step) (local part : List LocalStep) (after : Option (List Step)) (local_after : Option (List LocalStep)) → AskedDelta token drive after → scan.Looked 1 local local_after
+    → after ≡ Some (drive ++ more) → local_after ≡ Some (local ++ part) → IsWithin 1 more part
+stopped-within token drive more local part after local_after asked looked grown local_grown =
+    let asks : asked.part ≡ more = same-more after drive asked.part more asked.grown grown in
     record {
-      before = [];
-      after = added;
-      split = refl;
-      old = drive;
-      bad = subst (λ (i : Image). PullsBad i.items i.token drive (Some (drive ++ more)) id.0) same
-          (subst (λ (a : Option (List Step)). PullsBad image.items image.token drive a id.0) grown bad);
+      answered = subst (λ (steps : List Step). count_by is_answered_delta steps ≤ 1) asks asked.answered;
+      sent = subst (λ (steps : List Step). count_by is_own_delta steps ≤ 3) asks asked.sent;
+      listed = subst (λ (steps : List LocalStep). count_by is_root_listing steps ≤ 1) (same-more local_after local looked.part part looked.grown local_grown) looked.listed;
     }
 
 round-look-stopped : {drive : List Step} {local : List LocalStep} {images : List Image} {after : Option (List Step)} {local_after : Option (List LocalStep)} {images_after : Option (List Image)} (fb fn : ℕ) (image : Image) (stop : SyncStop)
-    → last_image images ≡ image → Went (IsSound image drive) drive local images after local_after images_after → ((n : ℕ) → stop ≡ BadPages (item_id n) → PullsBad image.items image.token drive after n)
+    → last_image images ≡ image → Went (IsSound image drive) drive local images after local_after images_after → scan.Looked 1 local local_after → AskedDelta image.token drive after
+    → ((n : ℕ) → stop ≡ BadPages (item_id n) → PullsBad image.items image.token drive after n) → ((n : ℕ) → stop ≡ BadPages (item_id n) → images_after ≡ Some images)
     → (stop ≡ Unserved → EndsUnserved (Delta image.token) drive after) → RoundsTo fb fn drive local images after local_after images_after (Err stop)
-round-look-stopped {drive} {local} {images} {after} {local_after} {images_after} fb fn image stop last w bad unserved = record {
+round-look-stopped {drive} {local} {images} {after} {local_after} {images_after} fb fn image stop last w looked asked bad stays unserved = record {
   more = w.more;
   drive_now = drive ++ w.more;
   part = w.part;
@@ -323,13 +403,21 @@ round-look-stopped {drive} {local} {images} {after} {local_after} {images_after}
   local_told = w.local_grown;
   images_told = w.images_grown;
   rounded = record {
-    grew = went-grew w (λ sound. subst (λ (i : Image). IsSound i drive) last sound);
+    grew = went-grew w (λ sound. subst (λ (i : Image). IsSound i drive) last sound)
+        (subst (λ (steps : List LocalStep). AllByRecursion IsLook steps) (same-more local_after local looked.part w.part looked.grown w.local_grown) looked.looks);
+    within = stopped-within image.token drive w.more local w.part after local_after asked looked w.drive_grown w.local_grown;
     looked = tt;
+    begins = tt;
     settled = λ is. absurd (cc is);
+    looks = λ is. absurd (cc is);
+    found_same = λ is. absurd (cc is);
+    found_unlike = λ next is. absurd (cc is);
     never_bad = λ id is sound.
         let kept : IsSound image drive = subst (λ (i : Image). IsSound i drive) last sound in
         pull.never-bad image.items image.token drive after kept.items id.0 (bad id.0 (cc is));
-    bad_pages = λ id is. ended-bad image drive w.more images w.added after id last w.drive_grown (bad id.0 (cc is));
+    bad_pages = λ id is.
+        ended-bad image drive w.more (images ++ w.added) after id (ap last_image (same-log images_after (images ++ w.added) images w.images_grown (stays id.0 (cc is))) ∙ last) w.drive_grown
+        (bad id.0 (cc is));
     unserved = λ is. ended-unserved image.token drive w.more after w.drive_grown (unserved (cc is));
     last = λ next is. absurd (cc is);
     unlike = λ next is. absurd (cc is);
@@ -339,14 +427,15 @@ round-look-stopped {drive} {local} {images} {after} {local_after} {images_after}
 
 -- ---- the same, where the logs and images may be told
 pub rounds-stopped : {T : Type 0} (fb fn : ℕ) (image : Image) (stop : SyncStop) (before after : Option (List Step)) (local_before local_after : Option (List LocalStep)) (images_before images_after : Option (List Image))
-    → Goes (λ drive. IsSound image drive) image before after local_before local_after images_before images_after
+    → Goes (λ drive. IsSound image drive) image before after local_before local_after images_before images_after → scan.Looks 1 local_before local_after → AsksDelta image.token before after
     → ((n : ℕ) → IsErrOf {T = T} (Err stop) (BadPages (item_id n)) → StopsBad image.items image.token before after n)
+    → ((n : ℕ) → IsErrOf {T = T} (Err stop) (BadPages (item_id n)) → Stay images_before images_after)
     → (IsErrOf {T = T} (Err stop) Unserved → (drive : List Step) → before ≡ Some drive → EndsUnserved (Delta image.token) drive after)
     → Rounds fb fn image before after local_before local_after images_before images_after (Err stop)
-rounds-stopped {T} fb fn image stop before after local_before local_after images_before images_after goes bad unserved = record {
+rounds-stopped {T} fb fn image stop before after local_before local_after images_before images_after goes looks asks bad stays unserved = record {
   told = λ drive local images told local_told images_told last.
-      round-look-stopped fb fn image stop last (goes.told drive local images told local_told images_told last)
-      (λ n is. (bad n (ap (λ s. Err s) is)).told drive told) (λ is. unserved (ap (λ s. Err s) is) drive told);
+      round-look-stopped fb fn image stop last (goes.told drive local images told local_told images_told last) (looks.told local local_told) (asks.told drive told)
+      (λ n is. (bad n (ap (λ s. Err s) is)).told drive told) (λ n is. stays n (ap (λ s. Err s) is) images images_told) (λ is. unserved (ap (λ s. Err s) is) drive told);
 }
 
 pub rounds-settled : (fb fn : ℕ) (image : Image) (sides : Sides) (before after : Option (List Step)) (local_before local_after : Option (List LocalStep)) (images_before images_after : Option (List Image))
@@ -359,19 +448,24 @@ rounds-settled fb fn image sides before after local_before local_after images_be
 
 pub rounds-acted : (fa fb fn : ℕ) (image : Image) (sides : Sides) (next : Image) (before middle after : Option (List Step)) (local_before local_middle local_after : Option (List LocalStep))
     (images_before images_middle images_after : Option (List Image)) → fa ≤ fb → Meets image sides before middle local_before local_middle images_before images_middle → is_same sides.local sides.remote ≡ false
-    → Acts sides next fb fn middle after local_middle local_after images_middle images_after → Rounds fa fn image before after local_before local_after images_before images_after (Ok (Some next))
-rounds-acted fa fb fn image sides next before middle after local_before local_middle local_after images_before images_middle images_after rises meets unlike acts = record {
+    → Acts sides next fb fn middle after local_middle local_after images_middle images_after
+    → PlanMakes sides local_middle local_after
+    → Rounds fa fn image before after local_before local_after images_before images_after (Ok (Some next))
+rounds-acted fa fb fn image sides next before middle after local_before local_middle local_after images_before images_middle images_after rises meets unlike acts makes = record {
   told = λ drive local images told local_told images_told last.
       let m = meets.told drive local images told local_told images_told last in
-      round-acted m last fa fb fn rises unlike (acts.told (drive-then m last) (local-then m last) (images-then m last) m.drive_grown m.local_grown m.images_grown (met-last m last));
+      round-acted m last fa fb fn rises unlike (acts.told (drive-then m last) (local-then m last) (images-then m last) m.drive_grown m.local_grown m.images_grown (met-last m last))
+      (makes.told (local-then m last) m.local_grown);
 }
 
 pub rounds-act-stopped : (fa fn : ℕ) (image : Image) (sides : Sides) (stop : SyncStop) (before middle after : Option (List Step)) (local_before local_middle local_after : Option (List LocalStep))
     (images_before images_middle images_after : Option (List Image)) → Meets image sides before middle local_before local_middle images_before images_middle → IsDoStop stop
     → Goes (λ drive. IsSound sides.image drive × AreKindsAccepted drive sides) sides.image middle after local_middle local_after images_middle images_after
+    → Grows IsTransfer middle after → PlanMakes sides local_middle local_after
     → Rounds fa fn image before after local_before local_after images_before images_after (Err stop)
-rounds-act-stopped fa fn image sides stop before middle after local_before local_middle local_after images_before images_middle images_after meets is_do goes = record {
+rounds-act-stopped fa fn image sides stop before middle after local_before local_middle local_after images_before images_middle images_after meets is_do goes grows makes = record {
   told = λ drive local images told local_told images_told last.
       let m = meets.told drive local images told local_told images_told last in
-      round-act-stopped m last fa fn stop is_do (goes.told (drive-then m last) (local-then m last) (images-then m last) m.drive_grown m.local_grown m.images_grown (met-last m last));
+      round-act-stopped m last fa fn stop is_do (goes.told (drive-then m last) (local-then m last) (images-then m last) m.drive_grown m.local_grown m.images_grown (met-last m last))
+      (grows.told (drive-then m last) m.drive_grown) (makes.told (local-then m last) m.local_grown);
 }

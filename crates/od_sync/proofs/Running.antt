@@ -1,8 +1,8 @@
 -- What some rounds come to one after another, where all logs and images are told.
 use Rattle.std.proofs.Common.{◌≡◌, ℕ, ◌+◌, ◌≤◌, Bool, true, false, List, [], ◌∷◌, ◌++◌, Option, Some, None, Result, Ok, Err, refl, ap, sym, subst, ◌∙◌, arith}
-use Rattle.std.proofs.lemmas.List.{append-nil, append_assoc}
+use Rattle.std.proofs.lemmas.List.{append-nil}
 use Rattle.std.proofs.lemmas.List.Elements.{All-nil}
-use Rattle.std.specs.Prelude.{IsErrOf}
+use Rattle.std.specs.Prelude.{IsErrOf, OnOk}
 use Rattle.gd_item.specs.declared.id.ItemId.{ItemId}
 use Rattle.gd_item.specs.declared.step.Step.{Step}
 use Rattle.od_keeper.proofs.Growing.{sound-empty}
@@ -15,20 +15,20 @@ use Rattle.od_tree.specs.Calls.{edited}
 use Rattle.od_tree.specs.Undisturbed.{IsOp}
 use Rattle.od_tree.specs.declared.step.LocalStep.{LocalStep}
 use Rattle.od_sync.specs.Comparing.{is_same}
-use Rattle.od_sync.specs.Deltas.{last_heard_after}
+use Rattle.od_sync.specs.Deltas.{is_answered_delta, last_heard_after}
 use Rattle.od_sync.specs.Ends.{stop_of_keeper}
 use Rattle.od_sync.specs.Rounds.{EndsWithUnserved, Ran, Rounded, Rounds, Runs, RunsAll, RunsTo, RoundsTo}
 use Rattle.od_sync.specs.Syncing.{Meets, Met}
-use Rattle.od_sync.specs.Pulls.{PullsBad}
 use Rattle.od_sync.specs.Scans.{is_root_listing}
-use Rattle.od_sync.specs.Syncs.{EndedBad, is_answered_delta}
+use Rattle.od_sync.specs.Looks.{AllUnlike, IsWithin, LastSame, found_until}
 use Rattle.od_sync.specs.declared.ends.SyncStop.{SyncStop}
 use Rattle.od_sync.specs.declared.ends.SyncStop.TheVariants.{BadPages, Unserved}
 use Rattle.od_sync.specs.declared.looking.Sides.{Sides}
 use Rattle.od_sync.proofs.Compares.{compared-unlike}
 use Rattle.od_sync.proofs.Growth.{answered, count-append, each-first, each-second, grew-sound, grew-then, scan-steps}
-use Rattle.od_sync.proofs.Rounding.{drive-then, images-then, local-then, met-looked, met-grew, met-sound, met-unlike}
+use Rattle.od_sync.proofs.Rounding.{drive-then, images-then, local-then, met-begins, met-found-unlike, met-grew, met-looked, met-looks, met-sound, met-unlike, met-within}
 use Rattle.od_sync.proofs.Sends.{last-append}
+use Rattle.od_sync.proofs.LooksFound.{same-then, unlike-then, until-append, within-then}
 use Rattle.od_sync.proofs.ServedTokens.{is-served}
 use Rattle.od_sync.proofs.CountsRose.{rose-on}
 
@@ -37,21 +37,25 @@ later-unserved : (first second : List Step) → EndsWithUnserved second → Ends
 later-unserved first second ends =
     record { token = ends.token; last = λ before. last-append before first second ∙ ends.last (last_heard_after before first) }
 
-bad-later : (images first middle second : List Image) (log : List Step) (id : ItemId) → middle ≡ images ++ first → EndedBad middle second log id → EndedBad images (first ++ second) log id
-bad-later images first middle second log id same ended = record {
-  before = first ++ ended.before;
-  after = ended.after;
-  split = ap (λ (added : List Image). first ++ added) ended.split ∙ sym (append_assoc first ended.before ended.after);
-  old = ended.old;
-  bad = subst (λ (all : List Image). PullsBad (last_image all).items (last_image all).token ended.old (Some log) id.0)
-      (ap (λ (all : List Image). all ++ ended.before) same ∙ append_assoc images first ended.before) ended.bad;
-}
+within-weaker : {a b : ℕ} (more : List Step) (part : List LocalStep) → a ≤ b → IsWithin a more part → IsWithin b more part
+within-weaker more part less within =
+    record { answered = omega (arith, less, within.answered); sent = omega (arith, less, within.sent); listed = omega (arith, less, within.listed) }
+
+begins-then : (result : Result Bool SyncStop) (local p1 lmid p2 : List LocalStep) → lmid ≡ local ++ p1 → found_until local p1 ≡ [] → OnOk result (found_until lmid p2 ≡ []) → OnOk result (found_until local (p1 ++ p2) ≡ [])
+begins-then (Ok settled) local p1 lmid p2 is first second = until-append local p1 p2 (ap (λ (log : List LocalStep). found_until log p2) (sym is) ∙ second) ∙ first
+begins-then (Err stop) local p1 lmid p2 is first second = tt
+
+begun : (result : Result Bool SyncStop) (settled : Bool) (lmid log part : List LocalStep) → result ≡ Ok settled → lmid ≡ log → OnOk result (found_until lmid part ≡ []) → found_until log part ≡ []
+begun result settled lmid log part is same begins =
+    ap (λ (l : List LocalStep). found_until l part) (sym same) ∙ subst (λ (r : Result Bool SyncStop). OnOk r (found_until lmid part ≡ [])) is begins
 
 ran-more : {drive m1 mid m2 now : List Step} {local p1 lmid p2 lnow : List LocalStep} {images a1 imid a2 inow : List Image} {next : Image} {result : Result Bool SyncStop} (k fa fb fc : ℕ) → fa ≤ fb → fb ≤ fc
     → Rounded fa fb drive m1 mid local p1 lmid images a1 imid (Ok (Some next)) → Ran k fb fc mid m2 now lmid p2 lnow imid a2 inow result
     → Ran (k + 1) fa fc drive (m1 ++ m2) now local (p1 ++ p2) lnow images (a1 ++ a2) inow result
 ran-more {drive} {m1} {mid} {m2} {now} {local} {p1} {lmid} {p2} {lnow} {images} {a1} {imid} {a2} {inow} {next} {result} k fa fb fc rises later first second = record {
   grew = grew-then first.grew second.grew;
+  within = within-then m1 m2 p1 p2 first.within second.within;
+  begins = begins-then result local p1 lmid p2 first.grew.local_is first.begins second.begins;
   looked = λ is. record {
     answered = omega (arith, first.looked.answered, count-append is_answered_delta m1 m2);
     listed = omega (arith, first.looked.listed, count-append is_root_listing p1 p2);
@@ -62,8 +66,17 @@ ran-more {drive} {m1} {mid} {m2} {now} {local} {p1} {lmid} {p2} {lnow} {images} 
   };
   settled = λ is sound. second.settled is (grew-sound first.grew sound);
   unsettled = λ is sound. second.unsettled is (grew-sound first.grew sound);
+  looks = second.looks;
+  found_same = λ is sound.
+      same-then drive m1 m2 local p1 p2 (begun result true lmid (local ++ p1) p2 is first.grew.local_is second.begins) (first.found_unlike next refl sound)
+      (subst (λ (log : List LocalStep). LastSame (drive ++ m1) m2 log p2) first.grew.local_is
+      (subst (λ (log : List Step). LastSame log m2 lmid p2) first.grew.drive_is (second.found_same is (grew-sound first.grew sound))));
+  found_unlike = λ is sound.
+      unlike-then drive m1 m2 local p1 p2 (begun result false lmid (local ++ p1) p2 is first.grew.local_is second.begins) (first.found_unlike next refl sound)
+      (subst (λ (log : List LocalStep). AllUnlike k (drive ++ m1) m2 log p2) first.grew.local_is
+      (subst (λ (log : List Step). AllUnlike k log m2 lmid p2) first.grew.drive_is (second.found_unlike is (grew-sound first.grew sound))));
   never_bad = λ id is sound. second.never_bad id is (grew-sound first.grew sound);
-  bad_pages = λ id is. bad-later images a1 imid a2 now id first.grew.images_are (second.bad_pages id is);
+  bad_pages = second.bad_pages;
   unserved = λ is. later-unserved m1 m2 (second.unserved is);
   unlike = λ is sound alone same.
       first.unlike next refl sound (each-first is-served m1 m2 alone.0, each-first IsOp p1 p2 alone.1) same;
@@ -73,14 +86,19 @@ ran-more {drive} {m1} {mid} {m2} {now} {local} {p1} {lmid} {p2} {lnow} {images} 
       (first.fresh next refl (λ rose. quiet (rose-on fa fb fc rose later)) (each-first is-served m1 m2 alone.0, each-first IsOp p1 p2 alone.1) none empty);
 }
 
-ran-settled : {drive more now : List Step} {local part lnow : List LocalStep} {images added inow : List Image} (k fb fn : ℕ) → Rounded fb fn drive more now local part lnow images added inow (Ok None)
+ran-settled : {drive more now : List Step} {local part lnow : List LocalStep} {images added inow : List Image} (k fb fn : ℕ) → 1 ≤ k → Rounded fb fn drive more now local part lnow images added inow (Ok None)
     → Ran k fb fn drive more now local part lnow images added inow (Ok true)
-ran-settled k fb fn r = record {
+ran-settled {more = more} {part = part} k fb fn some r = record {
   grew = r.grew;
+  within = within-weaker more part some r.within;
+  begins = r.begins;
   looked = λ is. r.looked;
   looked_by = λ is. absurd (cc is);
   settled = λ is. r.settled refl;
   unsettled = λ is. absurd (cc is);
+  looks = r.looks refl;
+  found_same = λ is. r.found_same refl;
+  found_unlike = λ is. absurd (cc is);
   never_bad = λ id is. absurd (cc is);
   bad_pages = λ id is. absurd (cc is);
   unserved = λ is. absurd (cc is);
@@ -88,14 +106,19 @@ ran-settled k fb fn r = record {
   fresh = λ two is. absurd (cc is);
 }
 
-ran-stopped : {drive more now : List Step} {local part lnow : List LocalStep} {images added inow : List Image} {stop : SyncStop} (k fb fn : ℕ) → Rounded fb fn drive more now local part lnow images added inow (Err stop)
+ran-stopped : {drive more now : List Step} {local part lnow : List LocalStep} {images added inow : List Image} {stop : SyncStop} (k fb fn : ℕ) → 1 ≤ k → Rounded fb fn drive more now local part lnow images added inow (Err stop)
     → Ran k fb fn drive more now local part lnow images added inow (Err stop)
-ran-stopped k fb fn r = record {
+ran-stopped {more = more} {part = part} k fb fn some r = record {
   grew = r.grew;
+  within = within-weaker more part some r.within;
+  begins = tt;
   looked = λ is. absurd (cc is);
   looked_by = λ is. absurd (cc is);
   settled = λ is. absurd (cc is);
   unsettled = λ is. absurd (cc is);
+  looks = tt;
+  found_same = λ is. absurd (cc is);
+  found_unlike = λ is. absurd (cc is);
   never_bad = λ id is. r.never_bad id (cc is);
   bad_pages = λ id is. r.bad_pages id (cc is);
   unserved = λ is. r.unserved (cc is);
@@ -118,11 +141,16 @@ runs-unlike {image} {sides} {drive} {local} {images} {after} {local_after} {imag
   images_told = m.images_grown;
   ran = record {
     grew = met-grew m last;
+    within = met-within m last;
+    begins = met-begins m last;
     looked = λ is. absurd (cc is);
     looked_by = λ is. met-looked m last;
     settled = λ is. absurd (cc is);
     unsettled = λ is sound alone same.
         compared-unlike (edited local m.edits) m.rest (drive ++ m.spent) image.token m.items sides.local sides.remote m.looks m.once (m.mirrors (met-sound m last sound)) m.remote_is m.local_is unlike alone same;
+    looks = met-looks m last;
+    found_same = λ is. absurd (cc is);
+    found_unlike = λ is sound. met-found-unlike m last unlike sound;
     never_bad = λ id is. absurd (cc is);
     bad_pages = λ id is. absurd (cc is);
     unserved = λ is. absurd (cc is);
@@ -132,9 +160,9 @@ runs-unlike {image} {sides} {drive} {local} {images} {after} {local_after} {imag
 }
 
 -- ---- the same, where the logs and images may be told
-runs-to-settled : {drive : List Step} {local : List LocalStep} {images : List Image} {after : Option (List Step)} {local_after : Option (List LocalStep)} {images_after : Option (List Image)} (k fb fn : ℕ)
+runs-to-settled : {drive : List Step} {local : List LocalStep} {images : List Image} {after : Option (List Step)} {local_after : Option (List LocalStep)} {images_after : Option (List Image)} (k fb fn : ℕ) → 1 ≤ k
     → RoundsTo fb fn drive local images after local_after images_after (Ok None) → RunsTo k fb fn drive local images after local_after images_after (Ok true)
-runs-to-settled k fb fn r = record {
+runs-to-settled k fb fn some r = record {
   more = r.more;
   drive_now = r.drive_now;
   part = r.part;
@@ -144,12 +172,12 @@ runs-to-settled k fb fn r = record {
   drive_told = r.drive_told;
   local_told = r.local_told;
   images_told = r.images_told;
-  ran = ran-settled k fb fn r.rounded;
+  ran = ran-settled k fb fn some r.rounded;
 }
 
-runs-to-stopped : {drive : List Step} {local : List LocalStep} {images : List Image} {after : Option (List Step)} {local_after : Option (List LocalStep)} {images_after : Option (List Image)} {stop : SyncStop} (k fb fn : ℕ)
+runs-to-stopped : {drive : List Step} {local : List LocalStep} {images : List Image} {after : Option (List Step)} {local_after : Option (List LocalStep)} {images_after : Option (List Image)} {stop : SyncStop} (k fb fn : ℕ) → 1 ≤ k
     → RoundsTo fb fn drive local images after local_after images_after (Err stop) → RunsTo k fb fn drive local images after local_after images_after (Err stop)
-runs-to-stopped k fb fn r = record {
+runs-to-stopped k fb fn some r = record {
   more = r.more;
   drive_now = r.drive_now;
   part = r.part;
@@ -159,7 +187,7 @@ runs-to-stopped k fb fn r = record {
   drive_told = r.drive_told;
   local_told = r.local_told;
   images_told = r.images_told;
-  ran = ran-stopped k fb fn r.rounded;
+  ran = ran-stopped k fb fn some r.rounded;
 }
 
 runs-to-more : {drive : List Step} {local : List LocalStep} {images : List Image} {middle after : Option (List Step)} {local_middle local_after : Option (List LocalStep)} {images_middle images_after : Option (List Image)}
@@ -181,15 +209,15 @@ runs-to-more {next = next} k fa fb fc rises later r runs =
     }
 
 pub runs-settled : (k fb fn : ℕ) (image : Image) (before after : Option (List Step)) (local_before local_after : Option (List LocalStep)) (images_before images_after : Option (List Image))
-    → Rounds fb fn image before after local_before local_after images_before images_after (Ok None) → Runs k fb fn image before after local_before local_after images_before images_after (Ok true)
-runs-settled k fb fn image before after local_before local_after images_before images_after rounds = record {
-  told = λ drive local images told local_told images_told last. runs-to-settled k fb fn (rounds.told drive local images told local_told images_told last);
+    → 1 ≤ k → Rounds fb fn image before after local_before local_after images_before images_after (Ok None) → Runs k fb fn image before after local_before local_after images_before images_after (Ok true)
+runs-settled k fb fn image before after local_before local_after images_before images_after some rounds = record {
+  told = λ drive local images told local_told images_told last. runs-to-settled k fb fn some (rounds.told drive local images told local_told images_told last);
 }
 
 pub runs-stopped : (k fb fn : ℕ) (image : Image) (stop : SyncStop) (before after : Option (List Step)) (local_before local_after : Option (List LocalStep)) (images_before images_after : Option (List Image))
-    → Rounds fb fn image before after local_before local_after images_before images_after (Err stop) → Runs k fb fn image before after local_before local_after images_before images_after (Err stop)
-runs-stopped k fb fn image stop before after local_before local_after images_before images_after rounds = record {
-  told = λ drive local images told local_told images_told last. runs-to-stopped k fb fn (rounds.told drive local images told local_told images_told last);
+    → 1 ≤ k → Rounds fb fn image before after local_before local_after images_before images_after (Err stop) → Runs k fb fn image before after local_before local_after images_before images_after (Err stop)
+runs-stopped k fb fn image stop before after local_before local_after images_before images_after some rounds = record {
+  told = λ drive local images told local_told images_told last. runs-to-stopped k fb fn some (rounds.told drive local images told local_told images_told last);
 }
 
 pub runs-unsettled : (fb fn : ℕ) (image : Image) (sides : Sides) (before after : Option (List Step)) (local_before local_after : Option (List LocalStep)) (images_before images_after : Option (List Image))
@@ -237,11 +265,17 @@ runs-not-loaded k fb fn fault stop log local_log images_before images_after is s
         steps = tt;
         images_are = sym (append-nil images);
         sound = λ sound. All-nil (λ (i : Image). IsSound i drive);
+        had = λ sound. tt;
       };
+      within = record { answered = omega arith; sent = omega arith; listed = omega arith };
+      begins = tt;
       looked = λ no_end. absurd (cc no_end);
       looked_by = λ no_end. absurd (cc no_end);
       settled = λ no_end. absurd (cc no_end);
       unsettled = λ no_end. absurd (cc no_end);
+      looks = tt;
+      found_same = λ no_end. absurd (cc no_end);
+      found_unlike = λ no_end. absurd (cc no_end);
       never_bad = λ id bad. absurd (keeper-not-bad fault stop is id bad);
       bad_pages = λ id bad. absurd (keeper-not-bad fault stop is id bad);
       unserved = λ bad. absurd (keeper-not-unserved fault stop is bad);

@@ -16,7 +16,8 @@ use Rattle.od_tree.specs.declared.entry.Entry.{Entry}
 use Rattle.od_tree.specs.declared.local.LocalFile.{LocalFile}
 use Rattle.od_tree.specs.declared.local.Spot.{Spot}
 use Rattle.od_sync.specs.Comparing.{node_of, scanned}
-use Rattle.od_sync.specs.Visits.{Turn, Visits, listing_at, pushed, pushed_if, found_file, found_folder}
+use Rattle.od_sync.specs.Findings.{found_file, found_folder, listing_at}
+use Rattle.od_sync.specs.Visits.{Turn, Visits, pushed, pushed_if}
 use Rattle.od_sync.specs.declared.scanning.Node.{Node}
 use Rattle.od_sync.specs.declared.scanning.Node.TheVariants.{Folder, File}
 use Rattle.od_sync.proofs.Compared.{same-path}

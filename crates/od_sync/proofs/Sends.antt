@@ -1,7 +1,8 @@
 -- One send of a request for changes, and one after others.
-use Rattle.std.proofs.Common.{◌≡◌, ℕ, zero, suc, ◌+◌, ◌<◌, ◌⊎◌, inl, inr, Bool, true, false, cond, List, [], ◌∷◌, ◌++◌, Option, Some, None, Ok, Err, Result, refl, ap, sym, subst, ◌∙◌, append_assoc, arith}
+use Rattle.std.proofs.Common.{◌≡◌, ℕ, zero, suc, ◌+◌, ◌<◌, ◌≤◌, ◌⊎◌, inl, inr, Bool, true, false, cond, nat_eq, List, [], ◌∷◌, ◌++◌, count_by, Option, Some, None, Ok, Err, Result, refl, ap, sym, subst, ◌∙◌, append_assoc, arith}
 use Rattle.std.proofs.lemmas.Bool.{eqb-true}
-use Rattle.std.proofs.lemmas.List.{append-nil}
+use Rattle.std.proofs.lemmas.List.Sums.{sum_by-cons}
+use Rattle.std.specs.List.{AllByRecursion}
 use Rattle.std.specs.Result.{IsErr, IsErrAnd}
 use Rattle.gd_item.specs.Answers.{answer_of, answer_unless, reply_to, refused, delta_reply}
 use Rattle.gd_item.specs.Pages.{Asked, Past, Latest, Bad, Lost, asked, is_bad}
@@ -18,12 +19,14 @@ use Rattle.gd_item.specs.declared.request.Request.TheVariants.{Delta}
 use Rattle.gd_item.specs.declared.step.Step.{Step}
 use Rattle.gd_item.specs.declared.step.Step.TheVariants.{Ask, Event}
 use Rattle.gd_item.specs.declared.step.Who.TheVariants.{Own, Other}
-use Rattle.od_transfer.specs.Asking.{Asks, IsSuch, Never, ByOthers, Grown, Grows, Heard, given, may_answer, is_last_link}
+use Rattle.od_transfer.specs.Asking.{Asks, IsSuch, Never, ByOthers, OwnAre, Heard, given, has_status, may_answer, is_last_link}
 use Rattle.od_transfer.specs.declared.remote.AskFault.{AskFault}
 use Rattle.od_sync.specs.declared.delta.DeltaFault.{DeltaFault}
 use Rattle.od_sync.specs.declared.delta.DeltaFault.TheVariants.{LinkFault, Unserved, Memory}
-use Rattle.od_transfer.proofs.Logs.{such-others, such-also, such-append, grown-also, grown-then}
-use Rattle.od_sync.specs.Deltas.{IsAskedWith, is_delta, DeltaAsks, page_in, last_heard_after, heard_step, IsSpent, Spent, PageHeard, EndsUnserved, SendsOnce, Sent, is_last_page}
+use Rattle.od_transfer.proofs.Logs.{such-others, such-also, such-append}
+use Rattle.od_sync.specs.Deltas.{AskedDelta, AsksDelta, IsAskedWith, is_delta, is_own_delta, is_answered_delta, DeltaAsks, page_in, last_heard_after, heard_step, IsSpent, Spent, SpentThrice, PageHeard, EndsUnserved, SendsOnce, Sent, is_last_page}
+use Rattle.od_sync.proofs.Compared.{both}
+use Rattle.od_sync.proofs.Growth.{count-append}
 
 -- ---- what a drive answers that is asked for changes
 delta_given : State → ℕ → Asked → Reply
@@ -60,11 +63,49 @@ others-last : (before : Option Step) (steps : List Step) → ByOthers steps → 
 others-last before [] by = refl
 others-last before (step ∷ steps) by = ap (λ last. last_heard_after last steps) (others-step before step by.0) ∙ others-last before steps by.1
 
+-- ---- how many requests for changes there are, and how many of them were answered
+none-counted : (P : Step → Type 0) (is : Step → Bool) → ((step : Step) → P step → is step ≡ false) → (steps : List Step) → AllByRecursion P steps → count_by is steps ≡ 0
+none-counted P is never [] all = refl
+none-counted P is never (step ∷ steps) all =
+    let first : cond (is step) 1 0 ≤ 0 = subst (λ b. cond b 1 0 ≤ 0) (sym (never step all.0)) (omega arith) in
+    omega (arith, sum_by-cons (λ (s : Step). cond (is s) 1 0) step steps, first, none-counted P is never steps all.1)
+
+one-or-none : (b : Bool) → cond b 1 0 ≤ 1
+one-or-none true = omega arith
+one-or-none false = omega arith
+
+one-more : (is : Step → Bool) (steps : List Step) (step : Step) (most : ℕ) → count_by is steps ≤ most → count_by is (steps ++ step ∷ []) ≤ most + 1
+one-more is steps step most within =
+    omega (arith, count-append is steps (step ∷ []), sum_by-cons (λ (s : Step). cond (is s) 1 0) step [], one-or-none (is step), within)
+
+both-counted : (is : Step → Bool) (first second : List Step) (a b : ℕ) → count_by is first ≤ a → count_by is second ≤ b → count_by is (first ++ second) ≤ a + b
+both-counted is first second a b within also = omega (arith, count-append is first second, within, also)
+
+-- others send none of this client
+others-unsent : (step : Step) → IsSuch Never step → is_own_delta step ≡ false
+others-unsent (Ask Own request served heard) by = absurd by
+others-unsent (Ask Other request served heard) by = refl
+others-unsent (Event event) by = refl
+
+others-sent : (steps : List Step) (most : ℕ) → ByOthers steps → count_by is_own_delta steps ≤ most
+others-sent steps most by = omega (arith, none-counted (IsSuch Never) is_own_delta others-unsent steps by)
+
+-- what had no page was not answered
+spent-step : (request : Request) (step : Step) → IsSuch (IsSpent request) step → is_answered_delta step ≡ false
+spent-step request (Ask Own sent true true) spent = absurd (cc (spent.1 refl))
+spent-step request (Ask Own sent true false) spent = refl
+spent-step request (Ask Own sent false heard) spent = refl
+spent-step request (Ask Other sent served heard) spent = refl
+spent-step request (Event event) spent = refl
+
+spent-unanswered : (request : Request) (steps : List Step) (most : ℕ) → OwnAre (IsSpent request) steps → count_by is_answered_delta steps ≤ most
+spent-unanswered request steps most such = omega (arith, none-counted (IsSuch (IsSpent request)) is_answered_delta (spent-step request) steps such)
+
 -- ---- one send
 heard-page : (request : Request) (page : Page) (old part : List Step) (after : Option (List Step)) (size : ℕ) (served : Bool) → ByOthers part
-    → after ≡ Some ((old ++ part) ++ Ask Own request served true ∷ []) → reply.Page page ≡ given served (old ++ part) size request → PageHeard request old after page
+    → after ≡ Some ((old ++ part) ++ Ask Own request served true ∷ []) → reply.Page page ≡ given served (old ++ part) size request → PageHeard 0 request old after page
 heard-page request page old part after size true by grown is =
-    record { part = part; such = such-others (IsSpent request) part by; size = size; grown = grown; page_is = is }
+    record { part = part; such = such-others (IsSpent request) part by; sent = others-sent part 0 by; size = size; grown = grown; page_is = is }
 heard-page request page old part after size false by grown is = absurd (cc is)
 
 page-of : (request : Request) (r : Reply) (page : Page) → is_delta request ≡ true → may_answer request r ≡ true → page_in r ≡ Some (Some page) → (r ≡ reply.Page page) × (is_last_link page.link ≡ true)
@@ -86,20 +127,21 @@ sent-page request r page before after is may in_reply asks =
     }
 
 spent-served : (token : Option (List ℕ)) (status : ℕ) (code : ErrorCode) (old part : List Step) (after : Option (List Step)) (size : ℕ) (served : Bool) → status ≡ 503 → ByOthers part
-    → after ≡ Some ((old ++ part) ++ Ask Own (Delta token) served true ∷ []) → reply.Refused status code ≡ given served (old ++ part) size (Delta token) → Spent (Delta token) 1 old after
+    → after ≡ Some ((old ++ part) ++ Ask Own (Delta token) served true ∷ []) → reply.Refused status code ≡ given served (old ++ part) size (Delta token) → Spent (Delta token) 1 1 old after
 spent-served token status code old part after size true number by grown is =
     absurd (served-delta (old ++ part) size token code (ap (λ n. reply.Refused n code) (sym number) ∙ is))
 spent-served token status code old part after size false number by grown is = record {
   part = part ++ Ask Own (Delta token) false true ∷ [];
   such = such-append (IsSpent (Delta token)) part (Ask Own (Delta token) false true ∷ []) (such-others (IsSpent (Delta token)) part by) ((refl, λ _. refl), tt);
+  sent = one-more is_own_delta part (Ask Own (Delta token) false true) 0 (others-sent part 0 by);
   grown = grown ∙ ap (λ log. Some log) (append_assoc old part (Ask Own (Delta token) false true ∷ []));
   last = λ some before. last-append before part (Ask Own (Delta token) false true ∷ []);
   none = λ is before. absurd (omega (arith, is));
 }
 
-spent-reply : (request : Request) (r : Reply) (old : List Step) (after : Option (List Step)) → is_delta request ≡ true → may_answer request r ≡ true → page_in r ≡ Some None → Heard Never request old after r → Spent request 1 old after
+spent-reply : (request : Request) (r : Reply) (old : List Step) (after : Option (List Step)) → is_delta request ≡ true → may_answer request r ≡ true → page_in r ≡ Some None → Heard Never request old after r → Spent request 1 1 old after
 spent-reply (Delta token) (reply.Refused status code) old after is may in_reply h =
-    spent-served token status code old h.part after h.size h.served (eqb-true status 503 may) h.such h.grown h.reply_is
+    spent-served token status code old h.part after h.size h.served (eqb-true status 503 (both (nat_eq status 503) (has_status code status) may).0) h.such h.grown h.reply_is
 spent-reply (Delta token) (reply.Page page) old after is may in_reply h = absurd (cc in_reply)
 spent-reply (Delta token) r old after is may in_reply h = absurd (cc may)
 spent-reply request r old after is may in_reply h = absurd (cc is)
@@ -110,12 +152,13 @@ sent-unserved request r before after is may in_reply asks =
     record { last_page = omega arith; ok = λ old told. spent-reply request r old after is may in_reply (asks.ok old told); err = tt }
 
 spent-unheard : (request : Request) (old others : List Step) (after : Option (List Step)) → ByOthers others
-    → (after ≡ Some (old ++ others)) ⊎ ((served : Bool) × (after ≡ Some ((old ++ others) ++ Ask Own request served false ∷ []))) → Spent request 0 old after
+    → (after ≡ Some (old ++ others)) ⊎ ((served : Bool) × (after ≡ Some ((old ++ others) ++ Ask Own request served false ∷ []))) → Spent request 1 0 old after
 spent-unheard request old others after by (inl not_there) =
-    record { part = others; such = such-others (IsSpent request) others by; grown = not_there; last = λ some before. absurd (omega (arith, some)); none = λ is before. others-last before others by }
+    record { part = others; such = such-others (IsSpent request) others by; sent = others-sent others 1 by; grown = not_there; last = λ some before. absurd (omega (arith, some)); none = λ is before. others-last before others by }
 spent-unheard request old others after by (inr there) = record {
   part = others ++ Ask Own request there.0 false ∷ [];
   such = such-append (IsSpent request) others (Ask Own request there.0 false ∷ []) (such-others (IsSpent request) others by) ((refl, λ is. absurd (cc is)), tt);
+  sent = one-more is_own_delta others (Ask Own request there.0 false) 0 (others-sent others 0 by);
   grown = there.1 ∙ ap (λ log. Some log) (append_assoc old others (Ask Own request there.0 false ∷ []));
   last = λ some before. absurd (omega (arith, some));
   none = λ is before. last-append before others (Ask Own request there.0 false ∷ []) ∙ others-last before others by;
@@ -125,18 +168,11 @@ pub sent-unheard : (request : Request) (fault : AskFault) (before after : Option
 sent-unheard request fault before after asks =
     record { last_page = omega arith; ok = λ old told. let u = asks.err old told in spent-unheard request old u.others after u.by_others u.grown; err = tt }
 
-pub spent-grown : (request : Request) (replies : ℕ) (old : List Step) (after : Option (List Step)) → Spent request replies old after → Grown (IsSpent request) old after
-spent-grown request replies old after s = record { part = s.part; such = s.such; grown = s.grown }
-
 pub sent-stopped : (request : Request) (fault : AskFault) (before after : Option (List Step)) {E : Type 0} (e : E) → Asks request before after (Err fault) → SendsOnce request before after (Err e)
 sent-stopped request fault before after e asks =
-    record { last_page = tt; ok = tt; err = λ old told. let u = asks.err old told in spent-grown request 0 old after (spent-unheard request old u.others after u.by_others u.grown) }
+    record { last_page = tt; ok = tt; err = λ old told. let u = asks.err old told in spent-unheard request old u.others after u.by_others u.grown }
 
 -- ---- one send after others
-pub none-sent : (request : Request) (old : List Step) (now : Option (List Step)) → now ≡ Some old → Spent request 0 old now
-none-sent request old now is =
-    record { part = []; such = tt; grown = is ∙ ap (λ log. Some log) (sym (append-nil old)); last = λ some before. absurd (omega (arith, some)); none = λ is before. refl }
-
 last-of-both : (request : Request) (a b : ℕ) (first second : List Step) → (0 < a → (before : Option Step) → last_heard_after before first ≡ Some (Ask Own request false true))
     → (0 < b → (before : Option Step) → last_heard_after before second ≡ Some (Ask Own request false true)) → (b ≡ 0 → (before : Option Step) → last_heard_after before second ≡ before)
     → (0 < b) ⊎ (b ≡ 0) → 0 < a + b → (before : Option Step) → last_heard_after before (first ++ second) ≡ Some (Ask Own request false true)
@@ -148,100 +184,105 @@ some-or-none : (b : ℕ) → (0 < b) ⊎ (b ≡ 0)
 some-or-none zero = inr refl
 some-or-none (suc b) = inl (omega arith)
 
-pub spent-more : (request : Request) (a b : ℕ) (old : List Step) (middle after : Option (List Step)) → Spent request a old middle
-    → ((now : List Step) → middle ≡ Some now → Spent request b now after) → Spent request (a + b) old after
-spent-more request a b old middle after first later =
+pub spent-more : (request : Request) (m n a b : ℕ) (old : List Step) (middle after : Option (List Step)) → Spent request m a old middle
+    → ((now : List Step) → middle ≡ Some now → Spent request n b now after) → Spent request (m + n) (a + b) old after
+spent-more request m n a b old middle after first later =
     let second = later (old ++ first.part) first.grown in
     record {
       part = first.part ++ second.part;
       such = such-append (IsSpent request) first.part second.part first.such second.such;
+      sent = both-counted is_own_delta first.part second.part m n first.sent second.sent;
       grown = second.grown ∙ ap (λ log. Some log) (append_assoc old first.part second.part);
       last = last-of-both request a b first.part second.part first.last second.last second.none (some-or-none b);
       none = λ is before. last-append before first.part second.part
           ∙ second.none (omega (arith, is)) (last_heard_after before first.part) ∙ first.none (omega (arith, is)) before;
     }
 
-pub page-more : (request : Request) (a : ℕ) (page : Page) (old : List Step) (middle after : Option (List Step)) → Spent request a old middle
-    → ((now : List Step) → middle ≡ Some now → PageHeard request now after page) → PageHeard request old after page
-page-more request a page old middle after first later =
+pub page-more : (request : Request) (n a : ℕ) (page : Page) (old : List Step) (middle after : Option (List Step)) → n ≤ 2 → Spent request n a old middle
+    → ((now : List Step) → middle ≡ Some now → PageHeard 0 request now after page) → PageHeard 2 request old after page
+page-more request n a page old middle after few first later =
     let second = later (old ++ first.part) first.grown in
     record {
       part = first.part ++ second.part;
       such = such-append (IsSpent request) first.part second.part first.such second.such;
+      sent = omega (arith, few, first.sent, second.sent, count-append is_own_delta first.part second.part);
       size = second.size;
       grown = second.grown ∙ ap (λ log. Some (log ++ Ask Own request true true ∷ [])) (append_assoc old first.part second.part);
       page_is = second.page_is ∙ ap (λ log. answer_of log second.size request) (append_assoc old first.part second.part);
     }
 
-pub grown-more : (request : Request) (a : ℕ) (old : List Step) (middle after : Option (List Step)) → Spent request a old middle
-    → ((now : List Step) → middle ≡ Some now → Grown (IsSpent request) now after) → Grown (IsSpent request) old after
-grown-more request a old middle after first later = grown-then (IsSpent request) old middle after (spent-grown request a old middle first) later
+spent-thrice : (request : Request) (n a : ℕ) (old : List Step) (after : Option (List Step)) → n ≤ 3 → Spent request n a old after → SpentThrice request old after
+spent-thrice request n a old after few s = record { part = s.part; such = s.such; sent = omega (arith, s.sent, few); grown = s.grown }
 
-pub spent-asks : (request : Request) (a : ℕ) (old : List Step) (after : Option (List Step)) → 0 < a → Spent request a old after → EndsUnserved request old after
-spent-asks request a old after some s = record { part = s.part; grown = s.grown; last = s.last some }
+pub spent-asks : (request : Request) (n a : ℕ) (old : List Step) (after : Option (List Step)) → 0 < a → Spent request n a old after → EndsUnserved request old after
+spent-asks request n a old after some s = record { part = s.part; grown = s.grown; last = s.last some }
 
 -- the ends of several sends
 is-memory : (result : Result Page DeltaFault) → IsErr result × IsErrAnd result (λ fault. fault ≡ Memory) → result ≡ Err Memory
 is-memory (Ok page) memory = absurd (cc memory.0)
 is-memory (Err fault) memory = ap (λ f. Err f) memory.1
 
-pub spent-sent : (request : Request) (a b : ℕ) (sent : Result Page ℕ) (old : List Step) (middle after : Option (List Step)) {E : Type 0} → sent ≡ Err b → Spent request a old middle
-    → SendsOnce request middle after {E = E} (Ok sent) → Spent request (a + b) old after
-spent-sent request a b sent old middle after is_spent first once =
-    spent-more request a b old middle after first (λ now is. subst (Sent request now after) is_spent (once.ok now is))
+pub spent-sent : (request : Request) (n a b : ℕ) (sent : Result Page ℕ) (old : List Step) (middle after : Option (List Step)) {E : Type 0} → sent ≡ Err b → Spent request n a old middle
+    → SendsOnce request middle after {E = E} (Ok sent) → Spent request (n + 1) (a + b) old after
+spent-sent request n a b sent old middle after is_spent first once =
+    spent-more request n 1 a b old middle after first (λ now is. subst (Sent request now after) is_spent (once.ok now is))
 
-pub asks-page : (request : Request) (a : ℕ) (page : Page) (sent : Result Page ℕ) (before middle after : Option (List Step)) {E : Type 0} → sent ≡ Ok page
-    → ((old : List Step) → before ≡ Some old → Spent request a old middle) → SendsOnce request middle after {E = E} (Ok sent) → DeltaAsks request before after (Ok page)
-asks-page request a page sent before middle after is_page first once = record {
+pub asks-page : (request : Request) (n a : ℕ) (page : Page) (sent : Result Page ℕ) (before middle after : Option (List Step)) {E : Type 0} → n < 3 → sent ≡ Ok page
+    → ((old : List Step) → before ≡ Some old → Spent request n a old middle) → SendsOnce request middle after {E = E} (Ok sent) → DeltaAsks request before after (Ok page)
+asks-page request n a page sent before middle after few is_page first once = record {
   last_page = subst is_last_page is_page once.last_page;
-  ok = λ old told. page-more request a page old middle after (first old told) (λ now is. subst (Sent request now after) is_page (once.ok now is));
+  ok = λ old told. page-more request n a page old middle after (omega (arith, few)) (first old told) (λ now is. subst (Sent request now after) is_page (once.ok now is));
   unserved = λ is. absurd (cc is);
   err = tt;
 }
 
-pub asks-stopped : (request : Request) (a : ℕ) (result : Result Page DeltaFault) (before middle after : Option (List Step)) {E : Type 0} (e : E) → IsErr result × IsErrAnd result (λ fault. fault ≡ Memory) → ((old : List Step) → before ≡ Some old → Spent request a old middle)
-    → SendsOnce request middle after (Err e) → DeltaAsks request before after result
-asks-stopped request a result before middle after e memory first once = subst (DeltaAsks request before after) (sym (is-memory result memory)) (record {
+pub asks-stopped : (request : Request) (n a : ℕ) (result : Result Page DeltaFault) (before middle after : Option (List Step)) {E : Type 0} (e : E) → n < 3 → IsErr result × IsErrAnd result (λ fault. fault ≡ Memory)
+    → ((old : List Step) → before ≡ Some old → Spent request n a old middle) → SendsOnce request middle after (Err e) → DeltaAsks request before after result
+asks-stopped request n a result before middle after e few memory first once = subst (DeltaAsks request before after) (sym (is-memory result memory)) (record {
   last_page = tt;
   ok = tt;
   unserved = λ is. absurd (cc is);
-  err = λ old told. grown-more request a old middle after (first old told) (λ now is. once.err now is);
+  err = λ old told. spent-thrice request (n + 1) (a + 0) old after (omega (arith, few)) (spent-more request n 1 a 0 old middle after (first old told) (λ now is. once.err now is));
 })
 
-pub asks-failed : (request : Request) (a : ℕ) (before after : Option (List Step)) → ((old : List Step) → before ≡ Some old → Spent request a old after) → DeltaAsks request before after (Err LinkFault)
-asks-failed request a before after all = record {
+pub asks-failed : (request : Request) (n a : ℕ) (before after : Option (List Step)) → n ≤ 3 → ((old : List Step) → before ≡ Some old → Spent request n a old after) → DeltaAsks request before after (Err LinkFault)
+asks-failed request n a before after few all = record {
   last_page = tt;
   ok = tt;
   unserved = λ is. absurd (cc is);
-  err = λ old told. spent-grown request a old after (all old told);
+  err = λ old told. spent-thrice request n a old after few (all old told);
 }
 
-pub asks-unserved : (request : Request) (a : ℕ) (before after : Option (List Step)) → 0 < a → ((old : List Step) → before ≡ Some old → Spent request a old after) → DeltaAsks request before after (Err Unserved)
-asks-unserved request a before after some all = record {
+pub asks-unserved : (request : Request) (n a : ℕ) (before after : Option (List Step)) → n ≤ 3 → 0 < a → ((old : List Step) → before ≡ Some old → Spent request n a old after) → DeltaAsks request before after (Err Unserved)
+asks-unserved request n a before after few some all = record {
   last_page = tt;
   ok = tt;
-  unserved = λ _ old told. spent-asks request a old after some (all old told);
-  err = λ old told. spent-grown request a old after (all old told);
+  unserved = λ _ old told. spent-asks request n a old after some (all old told);
+  err = λ old told. spent-thrice request n a old after few (all old told);
 }
 
 -- whatever the end, the requests were for these changes
 asked-with : (token : Option (List ℕ)) (sent : Request) (served heard : Bool) → IsSpent (Delta token) sent served heard → IsAskedWith token sent served heard
 asked-with token sent served heard spent = spent.0
 
-page-grown : (token : Option (List ℕ)) (old : List Step) (after : Option (List Step)) (page : Page) → PageHeard (Delta token) old after page → Grown (IsAskedWith token) old after
-page-grown token old after page h = record {
+page-asked : (token : Option (List ℕ)) (old : List Step) (after : Option (List Step)) (page : Page) → PageHeard 2 (Delta token) old after page → AskedDelta token old after
+page-asked token old after page h = record {
   part = h.part ++ Ask Own (Delta token) true true ∷ [];
   such = such-append (IsAskedWith token) h.part (Ask Own (Delta token) true true ∷ []) (such-also (IsSpent (Delta token)) (IsAskedWith token) (asked-with token) h.part h.such) (refl, tt);
+  sent = one-more is_own_delta h.part (Ask Own (Delta token) true true) 2 h.sent;
+  answered = one-more is_answered_delta h.part (Ask Own (Delta token) true true) 0 (spent-unanswered (Delta token) h.part 0 h.such);
   grown = h.grown ∙ ap (λ log. Some log) (append_assoc old h.part (Ask Own (Delta token) true true ∷ []));
 }
 
-pub delta-grows : (token : Option (List ℕ)) (result : Result Page DeltaFault) (before after : Option (List Step)) → DeltaAsks (Delta token) before after result → Grows (IsAskedWith token) before after
-delta-grows token (Ok page) before after asks = record { told = λ old told. page-grown token old after page (asks.ok old told) }
-delta-grows token (Err fault) before after asks =
-    record { told = λ old told. grown-also (IsSpent (Delta token)) (IsAskedWith token) (asked-with token) old after (asks.err old told) }
+spent-asked : (token : Option (List ℕ)) (old : List Step) (after : Option (List Step)) → SpentThrice (Delta token) old after → AskedDelta token old after
+spent-asked token old after s = record {
+  part = s.part;
+  such = such-also (IsSpent (Delta token)) (IsAskedWith token) (asked-with token) s.part s.such;
+  sent = s.sent;
+  answered = spent-unanswered (Delta token) s.part 1 s.such;
+  grown = s.grown;
+}
 
-pub not-asked : (token : Option (List ℕ)) (log : Option (List Step)) → Grows (IsAskedWith token) log log
-not-asked token log = record { told = λ old told. record { part = []; such = tt; grown = told ∙ ap (λ log. Some log) (sym (append-nil old)) } }
-
-pub asked-same : (asked token : Option (List ℕ)) (before after : Option (List Step)) → asked ≡ token → Grows (IsAskedWith asked) before after → Grows (IsAskedWith token) before after
-asked-same asked token before after same grows = subst (λ t. Grows (IsAskedWith t) before after) same grows
+pub delta-asks : (token : Option (List ℕ)) (result : Result Page DeltaFault) (before after : Option (List Step)) → DeltaAsks (Delta token) before after result → AsksDelta token before after
+delta-asks token (Ok page) before after asks = record { told = λ old told. page-asked token old after page (asks.ok old told) }
+delta-asks token (Err fault) before after asks = record { told = λ old told. spent-asked token old after (asks.err old told) }

@@ -13,7 +13,7 @@ use Rattle.od_transfer.specs.Asking.{Grows, OwnAre}
 use Rattle.od_transfer.specs.Fits.{IsTransfer}
 use Rattle.od_transfer.specs.Undisturbed as remote_alone
 use Rattle.od_transfer.specs.Undisturbed.{is_servable}
-use Rattle.od_sync.specs.Deltas.{IsAskedWith}
+use Rattle.od_sync.specs.Deltas.{AsksDelta}
 use Rattle.od_sync.specs.Receiving.{AddsImage, Got, Keeps, Receives}
 use Rattle.od_sync.specs.Serving.{KeepsToken, Leaves, Left, Served, Serves, ServesAll, StartsWith}
 use Rattle.od_sync.specs.Syncing.{IsSyncRequest}
@@ -33,11 +33,11 @@ servable-later drive more token asked own has =
     subst (λ (state : State). is_servable state (Delta token) ≡ true) (sym (own_requests_keep drive more asked own)) has
 
 -- ---- the parts of a look
-pub serves-pull : (image : Image) (before after : Option (List Step)) (images_before images_after : Option (List Image)) → Grows (IsAskedWith image.token) before after → Stay images_before images_after
+pub serves-pull : (image : Image) (before after : Option (List Step)) (images_before images_after : Option (List Image)) → AsksDelta image.token before after → Stay images_before images_after
     → Serves image before after images_before images_after
-serves-pull image before after images_before images_after grows stay = record {
+serves-pull image before after images_before images_after asks stay = record {
   told = λ drive images told images_told last.
-      let g = grows.told drive told in
+      let g = asks.told drive told in
       record {
         more = g.part;
         asked = asked-with image.token g.part g.such;

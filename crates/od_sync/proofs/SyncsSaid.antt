@@ -1,6 +1,7 @@
 -- What a sync says, from what its rounds come to.
 use Rattle.std.proofs.Common.{◌≡◌, ◌⊎◌, inl, inr, ℕ, Bool, true, false, ◌||◌, List, [], ◌∷◌, ◌++◌, Option, Some, None, Result, Ok, Err, refl, ap, sym, subst, ◌∙◌, arith}
 use Rattle.std.specs.List.{AllByRecursion, list_any}
+use Rattle.std.specs.Prelude.{OnOk}
 use Rattle.gd_item.specs.Steps.{accepted_by}
 use Rattle.gd_item.specs.declared.id.ItemId.{ItemId}
 use Rattle.gd_item.specs.declared.live.Version.{Version}
@@ -24,9 +25,10 @@ use Rattle.od_tree.specs.declared.step.TreeOp.TheVariants as op
 use Rattle.od_sync.specs.Deltas.{heard_step, last_heard_after}
 use Rattle.od_sync.specs.Ends.{Counts, HasStopCause, end_of_stop}
 use Rattle.od_sync.specs.Rounds.{EndsWithUnserved, HasRunCause, Ran, RunsAll, RunsTo, end_of}
+use Rattle.od_sync.specs.Scans.{IsLook}
 use Rattle.od_sync.specs.Serving.{Served, ServesAll}
 use Rattle.od_sync.specs.Syncing.{IsSyncStep}
-use Rattle.od_sync.specs.Syncs.{HasServable, IsQuiet, Syncs, SyncsTo, SyncsTold}
+use Rattle.od_sync.specs.Syncs.{HasServable, IsQuiet, Syncs, SyncsTo, SyncsTold, since_listed}
 use Rattle.od_sync.specs.declared.ends.SyncEnd.TheVariants as end
 use Rattle.od_sync.specs.declared.ends.SyncStop.{SyncStop}
 use Rattle.od_sync.specs.declared.ends.SyncStop.TheVariants as stop
@@ -116,6 +118,10 @@ ended-unserved (Err (stop.BadPages id)) is = absurd (cc is)
 ended-unserved (Err stop.Unserved) is = refl
 ended-unserved (Err stop.Memory) is = absurd (cc is)
 
+on-end : (result : Result Bool SyncStop) (X : Type 0) → (end_of result ≡ end.Settled) ⊎ (end_of result ≡ end.Unsettled) → OnOk result X → X
+on-end result X (inl is) so = subst (λ (r : Result Bool SyncStop). OnOk r X) (ended-settled result is) so
+on-end result X (inr is) so = subst (λ (r : Result Bool SyncStop). OnOk r X) (ended-unsettled result is) so
+
 -- ---- a sync that no one disturbs
 quiet-stop : {drive more now : List Step} {local part lnow : List LocalStep} {images added inow : List Image} (fb fn : ℕ) (before after : Counts) (s : SyncStop)
     → Ran 3 fb fn drive more now local part lnow images added inow (Err s) → HasStopCause before after {T = Bool} (Err s) → IsQuiet before after more part → last_image images ≡ empty_image
@@ -154,6 +160,11 @@ syncs {drive} {more} {local} {part} {images} {added} before now result ran cause
   keeps_every_edit = λ kept. keeps-edits drive more local part ran.grew.steps kept;
   mirrors_the_drive = λ is. ran.settled (ended-settled result is);
   unsettled_is_unlike = λ is. ran.unsettled (ended-unsettled result is);
+  makes_what_the_drive_had = ran.grew.had;
+  within_three_looks = ran.within;
+  settled_looks = λ is. ran.found_same (ended-settled result is);
+  unsettled_looks = λ is. ran.found_unlike (ended-unsettled result is);
+  ends_with_a_look = λ is. on-end result (AllByRecursion IsLook (since_listed (local ++ part))) is ran.looks;
   settled_after_a_look = λ is. ran.looked (ended-settled result is);
   unsettled_after_three = λ is. ran.looked_by (ended-unsettled result is);
   never_bad = λ id is. ran.never_bad id (ended-bad result id is);

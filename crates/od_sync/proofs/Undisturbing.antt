@@ -10,13 +10,13 @@ pub use Rattle.od_transfer.proofs.Undisturbing.{undisturbed_same as still-undist
 use Rattle.od_sync.specs.Deltas.{IsSpent, Spent}
 
 -- sends without a page are sends of the request
-spent-same : (request : Request) (replies : ℕ) (old : List Step) (after : Option (List Step)) → Spent request replies old after → Grown (λ sent served heard. sent ≡ request) old after
-spent-same request replies old after s =
+spent-same : (request : Request) (sends replies : ℕ) (old : List Step) (after : Option (List Step)) → Spent request sends replies old after → Grown (λ sent served heard. sent ≡ request) old after
+spent-same request sends replies old after s =
     record { part = s.part; such = such-also (IsSpent request) (λ sent served heard. sent ≡ request) (λ sent served heard spent. spent.0) s.part s.such; grown = s.grown }
 
 -- one more send fails as little as those before it
-pub no-faults-again : (request : Request) (replies : ℕ) (first second : Bool) (before middle : Option (List Step)) (faults_first faults_second faults_third : ℕ)
-    → Undisturbed first second before middle → ((old : List Step) → before ≡ Some old → Spent request replies old middle) → (first ≡ true → MayBeServed request before → faults_second ≡ faults_first)
+pub no-faults-again : (request : Request) (sends replies : ℕ) (first second : Bool) (before middle : Option (List Step)) (faults_first faults_second faults_third : ℕ)
+    → Undisturbed first second before middle → ((old : List Step) → before ≡ Some old → Spent request sends replies old middle) → (first ≡ true → MayBeServed request before → faults_second ≡ faults_first)
     → (second ≡ true → MayBeServed request middle → faults_third ≡ faults_second) → first ≡ true → MayBeServed request before → faults_third ≡ faults_first
-no-faults-again request replies first second before middle faults_first faults_second faults_third undisturbed sent once again quiet may =
-    again (undisturbed.stays quiet) (served_again request first second before middle quiet undisturbed (λ old told. spent-same request replies old middle (sent old told)) may) ∙ once quiet may
+no-faults-again request sends replies first second before middle faults_first faults_second faults_third undisturbed sent once again quiet may =
+    again (undisturbed.stays quiet) (served_again request first second before middle quiet undisturbed (λ old told. spent-same request sends replies old middle (sent old told)) may) ∙ once quiet may

@@ -1,5 +1,5 @@
 -- A request for changes is sent up to three times: again after a failure, and where the drive lacks memory.
-use Rattle.std.specs.Prelude.{◌≡◌, ℕ, ◌-◌, ◌<◌, ◌≤◌, Bool, true, false, List, [], ◌∷◌, ◌++◌, Option, Some, None, Result, Ok, Err, IfOk, OnOk, OnErr, IsErrOf}
+use Rattle.std.specs.Prelude.{◌≡◌, ℕ, ◌-◌, ◌<◌, ◌≤◌, Bool, true, false, List, [], ◌∷◌, ◌++◌, count_by, Option, Some, None, Result, Ok, Err, IfOk, OnOk, OnErr, IsErrOf}
 use Rattle.gd_names.specs.Streams.{Rose}
 use Rattle.gd_item.specs.Answers.{answer_of}
 use Rattle.gd_item.specs.declared.reply.Page.{Page}
@@ -10,7 +10,7 @@ use Rattle.gd_item.specs.declared.request.Request.TheVariants.{Delta}
 use Rattle.gd_item.specs.declared.step.Step.{Step}
 use Rattle.gd_item.specs.declared.step.Step.TheVariants.{Ask, Event}
 use Rattle.gd_item.specs.declared.step.Who.TheVariants.{Own, Other}
-use Rattle.od_transfer.specs.Asking.{OwnAre, Grown, RoseBy, is_last_link}
+use Rattle.od_transfer.specs.Asking.{OwnAre, RoseBy, is_last_link}
 use Rattle.od_sync.specs.declared.delta.DeltaFault.{DeltaFault}
 use Rattle.od_sync.specs.declared.delta.DeltaFault.TheVariants.{LinkFault, Unserved}
 
@@ -18,6 +18,16 @@ use Rattle.od_sync.specs.declared.delta.DeltaFault.TheVariants.{LinkFault, Unser
 abbrev pub is_delta : Request → Bool
 is_delta (Delta token) = true
 is_delta request = false
+
+-- whether a step is a request of this client for changes, and whether it was answered
+abbrev pub is_own_delta : Step → Bool
+is_own_delta (Ask Own request served heard) = is_delta request
+is_own_delta (Ask Other request served heard) = false
+is_own_delta (Event event) = false
+
+abbrev pub is_answered_delta : Step → Bool
+is_answered_delta (Ask Own request true true) = is_delta request
+is_answered_delta step = false
 
 -- the page of a reply, where the reply is one to such a request
 abbrev pub page_in : Reply → Option (Option Page)
@@ -40,18 +50,20 @@ last_heard_after last (step ∷ steps) = last_heard_after (heard_step last step)
 abbrev pub IsSpent : Request → Request → Bool → Bool → Type 0
 IsSpent request sent served heard = (sent ≡ request) × (heard ≡ true → served ≡ false)
 
--- sends without a page, to which there were so many replies
-pub record Spent (request : Request) (replies : ℕ) (old : List Step) (after : Option (List Step)) : Type 0 where
+-- so many sends at most without a page, to which there were so many replies
+pub record Spent (request : Request) (sends replies : ℕ) (old : List Step) (after : Option (List Step)) : Type 0 where
   pub part : List Step
   pub such : OwnAre (IsSpent request) part
+  pub sent : count_by is_own_delta part ≤ sends
   pub grown : after ≡ Some (old ++ part)
   pub last : 0 < replies → (before : Option Step) → last_heard_after before part ≡ Some (Ask Own request false true)
   pub none : replies ≡ 0 → (before : Option Step) → last_heard_after before part ≡ before
 
--- a page, after such sends: what the drive answered there
-pub record PageHeard (request : Request) (old : List Step) (after : Option (List Step)) (page : Page) : Type 0 where
+-- a page, after so many such sends at most: what the drive answered there
+pub record PageHeard (sends : ℕ) (request : Request) (old : List Step) (after : Option (List Step)) (page : Page) : Type 0 where
   pub part : List Step
   pub such : OwnAre (IsSpent request) part
+  pub sent : count_by is_own_delta part ≤ sends
   pub size : ℕ
   pub grown : after ≡ Some ((old ++ part) ++ Ask Own request true true ∷ [])
   pub page_is : reply.Page page ≡ answer_of (old ++ part) size request
@@ -62,11 +74,18 @@ pub record EndsUnserved (request : Request) (old : List Step) (after : Option (L
   pub grown : after ≡ Some (old ++ part)
   pub last : (before : Option Step) → last_heard_after before part ≡ Some (Ask Own request false true)
 
+-- three such sends at most
+pub record SpentThrice (request : Request) (old : List Step) (after : Option (List Step)) : Type 0 where
+  pub part : List Step
+  pub such : OwnAre (IsSpent request) part
+  pub sent : count_by is_own_delta part ≤ 3
+  pub grown : after ≡ Some (old ++ part)
+
 pub record DeltaAsks (request : Request) (before after : Option (List Step)) (result : Result Page DeltaFault) : Type 0 where
   pub last_page : IfOk result (λ page. is_last_link page.link ≡ true)
-  pub ok : IfOk result (λ page. (old : List Step) → before ≡ Some old → PageHeard request old after page)
+  pub ok : IfOk result (λ page. (old : List Step) → before ≡ Some old → PageHeard 2 request old after page)
   pub unserved : IsErrOf result Unserved → (old : List Step) → before ≡ Some old → EndsUnserved request old after
-  pub err : OnErr result ((old : List Step) → before ≡ Some old → Grown (IsSpent request) old after)
+  pub err : OnErr result ((old : List Step) → before ≡ Some old → SpentThrice request old after)
 
 -- the counts never fall, and each end has its cause
 pub record HasDeltaCause (faults_before faults_now answers_before answers_now row_now : ℕ) (result : Result Page DeltaFault) : Type 0 where
@@ -80,8 +99,8 @@ pub record HasDeltaCause (faults_before faults_now answers_before answers_now ro
 
 -- one send
 abbrev pub Sent : Request → List Step → Option (List Step) → Result Page ℕ → Type 0
-Sent request old after (Ok page) = PageHeard request old after page
-Sent request old after (Err replies) = Spent request replies old after
+Sent request old after (Ok page) = PageHeard 0 request old after page
+Sent request old after (Err replies) = Spent request 1 replies old after
 
 abbrev pub is_last_page : Result Page ℕ → Type 0
 is_last_page (Ok page) = is_last_link page.link ≡ true
@@ -90,7 +109,7 @@ is_last_page (Err replies) = replies ≤ 1
 pub record SendsOnce (request : Request) (before after : Option (List Step)) {E : Type 0} (result : Result (Result Page ℕ) E) : Type 0 where
   pub last_page : IfOk result is_last_page
   pub ok : IfOk result (λ sent. (old : List Step) → before ≡ Some old → Sent request old after sent)
-  pub err : OnErr result ((old : List Step) → before ≡ Some old → Grown (IsSpent request) old after)
+  pub err : OnErr result ((old : List Step) → before ≡ Some old → Spent request 1 0 old after)
 
 -- so many sends without a page, with so many replies
 pub record HasNoPage (sends replies faults_before faults_now answers_before answers_now row_before row_now : ℕ) : Type 0 where
@@ -109,6 +128,16 @@ pub record HasSendCause (faults_before faults_now answers_before answers_now row
   pub answers_later : answers_before ≤ answers_now
   pub sent : IfOk result (SentCause faults_before faults_now answers_before answers_now row_before row_now)
 
--- requests for changes since a token, or for everything
+-- requests for changes since a token, or for everything: three at most, of which one at most is answered
 abbrev pub IsAskedWith : Option (List ℕ) → Request → Bool → Bool → Type 0
 IsAskedWith token request served heard = request ≡ Delta token
+
+pub record AskedDelta (token : Option (List ℕ)) (old : List Step) (after : Option (List Step)) : Type 0 where
+  pub part : List Step
+  pub such : OwnAre (IsAskedWith token) part
+  pub sent : count_by is_own_delta part ≤ 3
+  pub answered : count_by is_answered_delta part ≤ 1
+  pub grown : after ≡ Some (old ++ part)
+
+pub record AsksDelta (token : Option (List ℕ)) (before after : Option (List Step)) : Type 0 where
+  pub told : (old : List Step) → before ≡ Some old → AskedDelta token old after

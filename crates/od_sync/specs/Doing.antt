@@ -1,14 +1,17 @@
 -- What is done in the local folder: folders are made in their order, and files are placed that were fetched. What a folder
 -- could not be made for waits for the next round. Where no one disturbs it, all is done.
-use Rattle.std.specs.Prelude.{◌≡◌, ℕ, ◌≤◌, Bool, true, false, not, ◌&&◌, List, [], ◌∷◌, ◌++◌, map, nat_le, Option, Some, None}
-use Rattle.std.specs.List.{All, AllByRecursion, AllZip, list_any}
+use Rattle.std.specs.Prelude.{◌≡◌, ◌⊎◌, ℕ, ◌≤◌, Bool, true, false, not, ◌&&◌, List, [], ◌∷◌, ◌++◌, map, nat_le, Option, Some, None}
+use Rattle.std.specs.List.{All, AllByRecursion, AllZip, Contains, list_any}
 use Rattle.gd_item.specs.Inventory.{Inventory}
 use Rattle.gd_item.specs.Records.{digest_record}
 use Rattle.gd_item.specs.declared.live.Version.{Version}
 use Rattle.od_keeper.specs.Sound.{IsAccepted}
 use Rattle.od_keeper.specs.declared.image.Agreed.TheVariants as agreed
+use Rattle.od_keeper.specs.Images.{by_path, put_all}
 use Rattle.od_keeper.specs.declared.image.BaseRow.{BaseRow}
+use Rattle.od_keeper.specs.declared.image.Image.{Image}
 use Rattle.od_transfer.specs.Alone.{HasFile}
+use Rattle.od_transfer.specs.Fits.{HasDigest}
 use Rattle.od_transfer.specs.declared.job.Job.{Job}
 use Rattle.od_transfer.specs.declared.job.Job.TheVariants.{Fetch}
 use Rattle.od_transfer.specs.declared.job.Outcome.{Outcome}
@@ -36,13 +39,47 @@ IsMaking (Op (op.MakeDir at)) = Unit {0}
 IsMaking (Op (op.Place at bytes)) = Unit {0}
 IsMaking (Op call) = ⊥
 
-pub record Made (old : List LocalStep) (after : Option (List LocalStep)) : Type 0 where
+-- the same where such folders alone are made, and such bytes alone placed at a path
+abbrev pub IsMakingOf : (List (List ℕ) → Type 0) → (List (List ℕ) → List ℕ → Type 0) → LocalStep → Type 0
+IsMakingOf IsFolder IsFile (User edit) = Unit {0}
+IsMakingOf IsFolder IsFile (Op (op.MakeDir at)) = IsFolder at
+IsMakingOf IsFolder IsFile (Op (op.Place at bytes)) = IsFile at bytes
+IsMakingOf IsFolder IsFile (Op call) = ⊥
+
+pub record Made (IsFolder : List (List ℕ) → Type 0) (IsFile : List (List ℕ) → List ℕ → Type 0) (old : List LocalStep) (after : Option (List LocalStep)) : Type 0 where
   pub part : List LocalStep
-  pub makes : AllByRecursion IsMaking part
+  pub makes : AllByRecursion (IsMakingOf IsFolder IsFile) part
   pub grown : after ≡ Some (old ++ part)
 
-pub record Makes (before after : Option (List LocalStep)) : Type 0 where
-  pub told : (old : List LocalStep) → before ≡ Some old → Made old after
+pub record Makes (IsFolder : List (List ℕ) → Type 0) (IsFile : List (List ℕ) → List ℕ → Type 0) (before after : Option (List LocalStep)) : Type 0 where
+  pub told : (old : List LocalStep) → before ≡ Some old → Made IsFolder IsFile old after
+
+-- none; and a folder that is among some
+abbrev pub NoFolder : List (List ℕ) → Type 0
+NoFolder at = ⊥
+
+abbrev pub NoFile : List (List ℕ) → List ℕ → Type 0
+NoFile at bytes = ⊥
+
+abbrev pub IsFolderOf : List (List (List ℕ)) → List (List ℕ) → Type 0
+IsFolderOf folders at = Contains folders at
+
+-- bytes that a fetch among some asks for at its path
+abbrev pub IsFetchOf : List Fetching → List (List ℕ) → List ℕ → Type 0
+IsFetchOf fetches at bytes = (fetch : Fetching) × Contains fetches fetch × (fetch.path ≡ at) × (fetch.digest ≡ digest_record bytes)
+
+-- what came of a fetch has its digest
+abbrev pub IsFetchFit : Fetching → Outcome → Type 0
+IsFetchFit fetch outcome = HasDigest fetch.digest outcome
+
+-- bytes that came for a path: of one fetch, and of some
+abbrev pub IsFileAt : List (List ℕ) → Option (List ℕ) → List (List ℕ) → List ℕ → Type 0
+IsFileAt path came at bytes = (path ≡ at) × (came ≡ Some bytes)
+
+abbrev pub IsBroughtTo : List Fetching → List Outcome → List (List ℕ) → List ℕ → Type 0
+IsBroughtTo [] outcomes at bytes = ⊥
+IsBroughtTo (fetch ∷ batch) [] at bytes = ⊥
+IsBroughtTo (fetch ∷ batch) (outcome ∷ outcomes) at bytes = ((fetch.path ≡ at) × (outcome ≡ Fetched bytes)) ⊎ IsBroughtTo batch outcomes at bytes
 
 -- whether a path is one of some paths or below one
 abbrev pub is_below_any : List (List (List ℕ)) → List (List ℕ) → Bool
@@ -106,6 +143,44 @@ job_of fetch = Fetch fetch.id fetch.digest fetch.size
 
 abbrev pub placed_row : Fetching → BaseRow
 placed_row fetch = record { path = fetch.path; what = agreed.File fetch.digest; flight = None }
+
+-- the files that steps placed, and the rows that say so
+abbrev pub placed_in : LocalStep → List (List (List ℕ) × List ℕ)
+placed_in (User edit) = []
+placed_in (Op (op.Place at bytes)) = (at, bytes) ∷ []
+placed_in (Op call) = []
+
+abbrev pub placed_files : List LocalStep → List (List (List ℕ) × List ℕ)
+placed_files [] = []
+placed_files (step ∷ steps) = placed_in step ++ placed_files steps
+
+abbrev pub row_of : List (List ℕ) × List ℕ → BaseRow
+row_of file = record { path = file.0; what = agreed.File (digest_record file.1); flight = None }
+
+-- these files were placed and no others; these rows are those of what was placed; and an image has got those rows
+pub record PlacedThese (files : List (List (List ℕ) × List ℕ)) (old : List LocalStep) (after : Option (List LocalStep)) : Type 0 where
+  pub part : List LocalStep
+  pub grown : after ≡ Some (old ++ part)
+  pub placed : placed_files part ≡ files
+
+pub record PlacesThese (files : List (List (List ℕ) × List ℕ)) (before after : Option (List LocalStep)) : Type 0 where
+  pub told : (old : List LocalStep) → before ≡ Some old → PlacedThese files old after
+
+pub record RowsGiven (rows : List BaseRow) (old : List LocalStep) (after : Option (List LocalStep)) : Type 0 where
+  pub part : List LocalStep
+  pub grown : after ≡ Some (old ++ part)
+  pub rows_are : rows ≡ map row_of (placed_files part)
+
+pub record GivesRows (rows : List BaseRow) (before after : Option (List LocalStep)) : Type 0 where
+  pub told : (old : List LocalStep) → before ≡ Some old → RowsGiven rows old after
+
+pub record RowsPut (image next : Image) (old : List LocalStep) (after : Option (List LocalStep)) : Type 0 where
+  pub part : List LocalStep
+  pub grown : after ≡ Some (old ++ part)
+  pub next_is : next ≡ record image { rows = put_all by_path (map row_of (placed_files part)) image.rows }
+
+pub record PutsRows (image next : Image) (before after : Option (List LocalStep)) : Type 0 where
+  pub told : (old : List LocalStep) → before ≡ Some old → RowsPut image next old after
 
 -- the digests of fetches are those of accepted bytes, and so are the agreements of rows
 abbrev pub AreAcceptedFetches : List Version → List Fetching → Type 0

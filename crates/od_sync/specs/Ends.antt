@@ -11,8 +11,8 @@ use Rattle.od_sync.specs.declared.ends.SyncStop.{SyncStop}
 use Rattle.od_sync.specs.declared.ends.SyncStop.TheVariants as stop
 use Rattle.od_sync.specs.declared.pulling.PullStop.{PullStop}
 use Rattle.od_sync.specs.declared.pulling.PullStop.TheVariants as pull
-use Rattle.od_sync.specs.declared.scanning.ScanFault.{ScanFault}
-use Rattle.od_sync.specs.declared.scanning.ScanFault.TheVariants as scan
+use Rattle.od_sync.specs.declared.scanning.FolderFault.{FolderFault}
+use Rattle.od_sync.specs.declared.scanning.FolderFault.TheVariants as folder
 
 abbrev pub end_of_stop : SyncStop → SyncEnd
 end_of_stop stop.LinkFault = end.LinkFault
@@ -28,9 +28,9 @@ stop_of_pull pull.Unserved = stop.Unserved
 stop_of_pull (pull.BadPages id) = stop.BadPages id
 stop_of_pull pull.Memory = stop.Memory
 
-abbrev pub stop_of_scan : ScanFault → SyncStop
-stop_of_scan scan.Failed = stop.TreeFault
-stop_of_scan scan.Memory = stop.Memory
+abbrev pub stop_of_folder : FolderFault → SyncStop
+stop_of_folder folder.Failed = stop.TreeFault
+stop_of_folder folder.Memory = stop.Memory
 
 abbrev pub stop_of_keeper : KeeperFault → SyncStop
 stop_of_keeper keeper.Failed = stop.KeeperFault

@@ -2,6 +2,7 @@ pub mod Deltas
 pub mod Pulls
 pub mod Scans
 pub mod Comparing
+pub mod Findings
 pub mod Visits
 pub mod Ends
 pub mod PullChanges
@@ -10,6 +11,7 @@ pub mod Planning
 pub mod Doing
 pub mod Making
 pub mod Batches
+pub mod Looks
 pub mod Syncing
 pub mod Syncs
 pub mod FreshPlans

@@ -1,14 +1,10 @@
 -- What one step of doing a plan does to the folder's log.
-use Rattle.std.specs.Prelude.{◌≡◌, ℕ, Bool, true, false, List, [], ◌++◌, map, Option, Some, None}
-use Rattle.std.specs.List.{All, list_any}
-use Rattle.od_keeper.specs.declared.image.BaseRow.{BaseRow}
+use Rattle.std.specs.Prelude.{◌≡◌, ℕ, Bool, true, List, [], ◌++◌, Option, Some, None}
 use Rattle.od_transfer.specs.declared.job.Outcome.{Outcome}
 use Rattle.od_transfer.specs.declared.job.Outcome.TheVariants.{Fetched, Changed, Refused, Lost}
-use Rattle.od_tree.specs.Local.{is_path, local_of, with_spot}
+use Rattle.od_tree.specs.Local.{local_of, with_spot}
 use Rattle.od_tree.specs.Undisturbed.{NoUser}
 use Rattle.od_tree.specs.declared.step.LocalStep.{LocalStep}
-use Rattle.od_tree.specs.declared.step.LocalStep.TheVariants.{User, Op}
-use Rattle.od_tree.specs.declared.step.TreeOp.TheVariants as op
 use Rattle.od_sync.specs.Doing.{CanStand, placed_file}
 use Rattle.od_sync.specs.declared.planning.Fetching.{Fetching}
 
@@ -36,20 +32,3 @@ bytes_of Lost = None
 pub record PlacesFetched (fetch : Fetching) (fetched : Option (List ℕ)) (before after : Option (List LocalStep)) : Type 0 where
   pub one : (bytes : List ℕ) (old part : List LocalStep) → fetched ≡ Some bytes → before ≡ Some old → after ≡ Some (old ++ part) → NoUser part → CanStand fetch.path (local_of old).spots
       → (local_of (old ++ part)).spots ≡ with_spot fetch.path (Some (placed_file bytes)) (local_of old).spots
-
--- files were placed on these paths
-abbrev pub is_placing : List (List ℕ) → LocalStep → Bool
-is_placing path (User edit) = false
-is_placing path (Op (op.Place at bytes)) = is_path path at
-is_placing path (Op call) = false
-
-pub record PlacedOn (paths : List (List (List ℕ))) (old : List LocalStep) (after : Option (List LocalStep)) : Type 0 where
-  pub part : List LocalStep
-  pub grown : after ≡ Some (old ++ part)
-  pub each : All (λ path. list_any (is_placing path) part ≡ true) paths
-
-pub record PlacesOn (paths : List (List (List ℕ))) (before after : Option (List LocalStep)) : Type 0 where
-  pub told : (old : List LocalStep) → before ≡ Some old → PlacedOn paths old after
-
-abbrev pub paths_in : List BaseRow → List (List (List ℕ))
-paths_in rows = map (λ (row : BaseRow). row.path) rows

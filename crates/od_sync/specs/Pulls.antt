@@ -25,7 +25,7 @@ pub record IsView (pulled : Pulled) (view : MirrorView) : Type 0 where
 -- a last page that was heard, after sends without one
 pub record LastPage (token : Option (List ℕ)) (old : List Step) (after : Option (List Step)) : Type 0 where
   pub page : Page
-  pub heard : PageHeard (Delta token) old after page
+  pub heard : PageHeard 2 (Delta token) old after page
   pub last_page : is_last_link page.link ≡ true
 
 -- a pull over items and their token

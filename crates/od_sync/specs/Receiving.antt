@@ -1,5 +1,5 @@
 -- The parts of a look at both sides: what is pulled and committed, and what both sides agree on then.
-use Rattle.std.specs.Prelude.{◌≡◌, ℕ, true, List, [], ◌∷◌, ◌++◌, map, Option, Some, Result, IfOk, OnErr}
+use Rattle.std.specs.Prelude.{◌≡◌, ℕ, ◌≤◌, true, List, [], ◌∷◌, ◌++◌, count_by, map, Option, Some, Result, IfOk, OnErr}
 use Rattle.gd_item.specs.Records.{records_of}
 use Rattle.gd_item.specs.Steps.{state_of, held_by}
 use Rattle.gd_item.specs.declared.item.Item.{Item}
@@ -15,7 +15,7 @@ use Rattle.od_mirror.specs.Pulled.{paths_of}
 use Rattle.od_transfer.specs.Asking.{OwnAre}
 use Rattle.od_transfer.specs.Undisturbed.{is_servable}
 use Rattle.od_sync.specs.Agreeing.{agreement}
-use Rattle.od_sync.specs.Deltas.{IsSpent}
+use Rattle.od_sync.specs.Deltas.{IsSpent, is_own_delta}
 use Rattle.od_sync.specs.PullChanges.{ItemsRise}
 use Rattle.od_sync.specs.declared.looking.Sides.{Sides}
 use Rattle.od_sync.specs.declared.receiving.Received.{Received}
@@ -41,6 +41,7 @@ pub record IsReceived (image : Image) (items : List Item) (token : List ℕ) (re
 pub record Got (image : Image) (received : Received) (drive : List Step) (images : List Image) (drive_after : Option (List Step)) (images_after : Option (List Image)) : Type 0 where
   pub spent : List Step
   pub such : OwnAre (IsSpent (Delta image.token)) spent
+  pub sent : count_by is_own_delta spent ≤ 2
   pub drive_grown : drive_after ≡ Some ((drive ++ spent) ++ Ask Own (Delta image.token) true true ∷ [])
   pub images_grown : images_after ≡ Some (images ++ received.image ∷ [])
   pub sound : IsSound image drive → IsSound received.image (drive ++ spent)

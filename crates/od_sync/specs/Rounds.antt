@@ -1,6 +1,6 @@
 -- A round of a sync, and some rounds one after another: what they come to where all logs and images are told. Each is told
 -- with the steps and images that it adds and with the logs and images then.
-use Rattle.std.specs.Prelude.{◌≡◌, ℕ, ◌≤◌, Bool, true, false, List, [], ◌++◌, count_by, Option, Some, None, Result, Ok, Err, OnOk}
+use Rattle.std.specs.Prelude.{◌≡◌, ℕ, ◌≤◌, Bool, true, false, List, [], ◌++◌, Option, Some, None, Result, Ok, Err, OnOk}
 use Rattle.std.specs.List.{All, AllByRecursion}
 use Rattle.gd_names.specs.Streams.{Rose}
 use Rattle.gd_item.specs.Steps.{held_by, accepted_by}
@@ -29,7 +29,9 @@ use Rattle.od_sync.specs.Deltas.{last_heard_after}
 use Rattle.od_sync.specs.Ends.{Counts, HasStopCause, end_of_stop}
 use Rattle.od_sync.specs.Planning.{planned_fetches, planned_folders}
 use Rattle.od_sync.specs.Syncing.{Did, IsSyncRequest, IsSyncStep}
-use Rattle.od_sync.specs.Syncs.{AreSame, EndedBad, Looked, since_listed}
+use Rattle.od_sync.specs.Looks.{AllUnlike, IsWithin, LastSame, Looked, found_until}
+use Rattle.od_sync.specs.Scans.{IsLook}
+use Rattle.od_sync.specs.Syncs.{AreSame, EndedBad, IsFromDrive, since_listed}
 use Rattle.od_sync.specs.declared.ends.SyncEnd.{SyncEnd}
 use Rattle.od_sync.specs.declared.ends.SyncEnd.TheVariants.{Settled, Unsettled}
 use Rattle.od_sync.specs.declared.ends.SyncStop.{SyncStop}
@@ -50,6 +52,7 @@ pub record Grew (drive more drive_now : List Step) (local part local_now : List 
   pub steps : AllByRecursion IsSyncStep part
   pub images_are : images_now ≡ images ++ added
   pub sound : IsSound (last_image images) drive → All (λ (image : Image). IsSound image drive_now) added
+  pub had : IsSound (last_image images) drive → AllByRecursion (IsFromDrive drive more) part
 
 -- what a sync says where both sides are the same, and where they are not
 abbrev pub MirrorsThen : List Step → List Step → List LocalStep → List Image → Type 0
@@ -76,10 +79,15 @@ FromNothing faults_before faults_now more local part images Then =
 pub record Rounded (faults_before faults_now : ℕ) (drive more drive_now : List Step) (local part local_now : List LocalStep) (images added images_now : List Image)
     (result : Result (Option Image) SyncStop) : Type 0 where
   pub grew : Grew drive more drive_now local part local_now images added images_now
+  pub within : IsWithin 1 more part
   pub looked : OnOk result (Looked 1 more part)
+  pub begins : OnOk result (found_until local part ≡ [])
   pub settled : result ≡ Ok None → MirrorsThen drive drive_now local_now images
+  pub looks : result ≡ Ok None → AllByRecursion IsLook (since_listed local_now)
+  pub found_same : result ≡ Ok None → IsSound (last_image images) drive → LastSame drive more local part
+  pub found_unlike : (next : Image) → result ≡ Ok (Some next) → IsSound (last_image images) drive → AllUnlike 1 drive more local part
   pub never_bad : (id : ItemId) → result ≡ Err (BadPages id) → IsSound (last_image images) drive → ⊥
-  pub bad_pages : (id : ItemId) → result ≡ Err (BadPages id) → EndedBad images added drive_now id
+  pub bad_pages : (id : ItemId) → result ≡ Err (BadPages id) → EndedBad images_now drive_now id
   pub unserved : result ≡ Err Unserved → EndsWithUnserved more
   pub last : (next : Image) → result ≡ Ok (Some next) → last_image images_now ≡ next
   pub unlike : (next : Image) → result ≡ Ok (Some next) → NeverFromSame drive more local part images
@@ -108,12 +116,17 @@ pub record Rounds (faults_before faults_now : ℕ) (image : Image) (drive_before
 pub record Ran (rounds faults_before faults_now : ℕ) (drive more drive_now : List Step) (local part local_now : List LocalStep) (images added images_now : List Image)
     (result : Result Bool SyncStop) : Type 0 where
   pub grew : Grew drive more drive_now local part local_now images added images_now
+  pub within : IsWithin rounds more part
+  pub begins : OnOk result (found_until local part ≡ [])
   pub looked : result ≡ Ok true → Looked 1 more part
   pub looked_by : result ≡ Ok false → Looked rounds more part
   pub settled : result ≡ Ok true → MirrorsThen drive drive_now local_now images
   pub unsettled : result ≡ Ok false → UnlikeThen drive drive_now local_now images
+  pub looks : OnOk result (AllByRecursion IsLook (since_listed local_now))
+  pub found_same : result ≡ Ok true → IsSound (last_image images) drive → LastSame drive more local part
+  pub found_unlike : result ≡ Ok false → IsSound (last_image images) drive → AllUnlike rounds drive more local part
   pub never_bad : (id : ItemId) → result ≡ Err (BadPages id) → IsSound (last_image images) drive → ⊥
-  pub bad_pages : (id : ItemId) → result ≡ Err (BadPages id) → EndedBad images added drive_now id
+  pub bad_pages : (id : ItemId) → result ≡ Err (BadPages id) → EndedBad images_now drive_now id
   pub unserved : result ≡ Err Unserved → EndsWithUnserved more
   pub unlike : result ≡ Ok false → NeverFromSame drive more local part images
   pub fresh : 2 ≤ rounds → result ≡ Ok false → FromNothing faults_before faults_now more local part images ⊥

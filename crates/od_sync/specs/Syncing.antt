@@ -1,6 +1,6 @@
 -- What the phases of a sync do to the logs and images that are told: how they grow, what a look at both sides finds, and what
 -- is done then.
-use Rattle.std.specs.Prelude.{◌≡◌, ℕ, Bool, true, false, ◌||◌, List, [], ◌∷◌, ◌++◌, map, Option, Some}
+use Rattle.std.specs.Prelude.{◌≡◌, ℕ, ◌≤◌, Bool, true, false, ◌||◌, List, [], ◌∷◌, ◌++◌, count_by, map, Option, Some}
 use Rattle.std.specs.List.{All, AllByRecursion, AllZip, list_any}
 use Rattle.gd_names.specs.Streams.{Rose}
 use Rattle.gd_item.specs.Records.{records_of}
@@ -29,8 +29,9 @@ use Rattle.od_tree.specs.declared.step.LocalStep.TheVariants.{User, Op}
 use Rattle.od_tree.specs.declared.step.TreeOp.TheVariants as op
 use Rattle.od_sync.specs.Agreeing.{agreement}
 use Rattle.od_sync.specs.Comparing.{scanned}
-use Rattle.od_sync.specs.Deltas.{is_delta, IsSpent}
+use Rattle.od_sync.specs.Deltas.{is_delta, is_own_delta, IsSpent}
 use Rattle.od_sync.specs.Doing.{AreAcceptedFetches, CanMake, CanPlace, IsFileOf, folder_spot, file_spot}
+use Rattle.od_sync.specs.Findings.{found_by}
 use Rattle.od_sync.specs.Scans.{IsLook, is_root_listing}
 use Rattle.od_sync.specs.declared.ends.SyncStop.{SyncStop}
 use Rattle.od_sync.specs.declared.ends.SyncStop.TheVariants.{BadPages, Unserved}
@@ -68,6 +69,7 @@ pub record Met (image : Image) (sides : Sides) (drive : List Step) (local : List
     (drive_after : Option (List Step)) (local_after : Option (List LocalStep)) (images_after : Option (List Image)) : Type 0 where
   pub spent : List Step
   pub such : OwnAre (IsSpent (Delta image.token)) spent
+  pub sent : count_by is_own_delta spent ≤ 2
   pub drive_grown : drive_after ≡ Some ((drive ++ spent) ++ Ask Own (Delta image.token) true true ∷ [])
   pub edits : List UserEdit
   pub rest : List LocalStep
@@ -84,6 +86,7 @@ pub record Met (image : Image) (sides : Sides) (drive : List Step) (local : List
   pub items : List Item
   pub remote_is : sides.remote ≡ paths_of items
   pub mirrors : IsSound image drive → map uncounted items ≡ map uncounted (records_of (held_by (drive ++ spent)))
+  pub found_is : sides.local ≡ found_by (edited local edits ++ Op (op.List []) ∷ []) rest
   pub local_is : NoUser rest → sides.local ≡ scanned (local_tree (edited local edits))
 
 -- what was planned is done: the image that is last then, and the folder's entries where no one disturbs it

@@ -1,14 +1,15 @@
 -- What a sync says of the drive's log, the folder's log and the committed images, where all three are told.
-use Rattle.std.specs.Prelude.{◌≡◌, ◌⊎◌, ℕ, ◌≤◌, Bool, true, false, cond, List, [], ◌∷◌, ◌++◌, count_by, Option, Some, None}
-use Rattle.std.specs.List.{All, AllByRecursion, list_any}
+use Rattle.std.specs.Prelude.{◌≡◌, ◌⊎◌, ℕ, Bool, true, false, cond, List, [], ◌∷◌, ◌++◌, Option, Some, None}
+use Rattle.std.specs.List.{All, AllByRecursion, Contains, list_any}
 use Rattle.gd_names.specs.Streams.{Rose}
+use Rattle.gd_item.specs.Records.{digest_record}
 use Rattle.gd_item.specs.Steps.{state_of, held_by, accepted_by}
 use Rattle.gd_item.specs.Trees.{tree_of}
 use Rattle.gd_item.specs.declared.id.ItemId.{ItemId}
 use Rattle.gd_item.specs.declared.request.Request.TheVariants.{Delta}
 use Rattle.gd_item.specs.declared.step.Step.{Step}
-use Rattle.gd_item.specs.declared.step.Step.TheVariants.{Ask, Event}
-use Rattle.gd_item.specs.declared.step.Who.TheVariants.{Own, Other}
+use Rattle.gd_item.specs.declared.step.Step.TheVariants.{Ask}
+use Rattle.gd_item.specs.declared.step.Who.TheVariants.{Own}
 use Rattle.od_keeper.specs.Images.{empty_image}
 use Rattle.od_keeper.specs.Keeping.{last_image}
 use Rattle.od_keeper.specs.Sound.{IsSound}
@@ -21,13 +22,19 @@ use Rattle.od_tree.specs.Local.{local_of, local_tree}
 use Rattle.od_tree.specs.Loss.{no_loss}
 use Rattle.od_tree.specs.Undisturbed.{NoUser}
 use Rattle.od_tree.specs.declared.step.LocalStep.{LocalStep}
-use Rattle.od_sync.specs.Deltas.{is_delta, last_heard_after}
+use Rattle.od_tree.specs.declared.step.LocalStep.TheVariants.{User, Op}
+use Rattle.od_tree.specs.declared.step.TreeOp.TheVariants as op
+use Rattle.od_sync.specs.Comparing.{scanned}
+use Rattle.od_sync.specs.Deltas.{is_own_delta, last_heard_after}
 use Rattle.od_sync.specs.Ends.{Counts}
+use Rattle.od_sync.specs.Looks.{AllUnlike, IsWithin, LastSame, Looked}
 use Rattle.od_sync.specs.Pulls.{PullsBad}
-use Rattle.od_sync.specs.Scans.{is_root_listing}
+use Rattle.od_sync.specs.Scans.{IsLook, is_root_listing}
 use Rattle.od_sync.specs.Syncing.{IsSyncRequest, IsSyncStep}
 use Rattle.od_sync.specs.declared.ends.SyncEnd.{SyncEnd}
 use Rattle.od_sync.specs.declared.ends.SyncEnd.TheVariants.{Settled, Unsettled, BadPages, Unserved, Memory}
+use Rattle.od_sync.specs.declared.scanning.Node.{Node}
+use Rattle.od_sync.specs.declared.scanning.Node.TheVariants.{Folder, File}
 
 -- what comes before the last step that is such, and what comes after it
 abbrev pub before_last : {X : Type 0} → (X → Bool) → List X → List X
@@ -37,16 +44,6 @@ before_last is (step ∷ steps) = cond (list_any is steps) (step ∷ before_last
 abbrev pub after_last : {X : Type 0} → (X → Bool) → List X → List X
 after_last is [] = []
 after_last is (step ∷ steps) = cond (list_any is steps) (after_last is steps) steps
-
--- whether a step is a request of this client for changes, and whether it was answered
-abbrev pub is_own_delta : Step → Bool
-is_own_delta (Ask Own request served heard) = is_delta request
-is_own_delta (Ask Other request served heard) = false
-is_own_delta (Event event) = false
-
-abbrev pub is_answered_delta : Step → Bool
-is_answered_delta (Ask Own request true true) = is_delta request
-is_answered_delta step = false
 
 -- the drive's log when this client last asked for changes, and the steps in the folder since its root was last listed
 abbrev pub last_asked : List Step → List Step
@@ -58,6 +55,21 @@ since_listed local = after_last is_root_listing local
 -- the folder's tree is the drive's where it was last asked
 abbrev pub AreSame : List LocalStep → List Step → Type 0
 AreSame local drive = local_tree local ≡ tree_of (held_by (last_asked drive))
+
+-- the drive had this entry where it answered a request for changes
+pub record HadThen (drive more : List Step) (path : List (List ℕ)) (node : Node) : Type 0 where
+  pub first : List Step
+  pub token : Option (List ℕ)
+  pub later : List Step
+  pub split : more ≡ first ++ Ask Own (Delta token) true true ∷ later
+  pub had : Contains (scanned (tree_of (held_by (drive ++ first)))) (path, node)
+
+-- what is made is what the drive had there
+abbrev pub IsFromDrive : List Step → List Step → LocalStep → Type 0
+IsFromDrive drive more (User edit) = Unit {0}
+IsFromDrive drive more (Op (op.MakeDir at)) = HadThen drive more at Folder
+IsFromDrive drive more (Op (op.Place at bytes)) = HadThen drive more at (File (digest_record bytes))
+IsFromDrive drive more (Op call) = Unit {0}
 
 -- whether the token of an image is one that the drive serves
 abbrev pub HasServable : Image → List Step → Type 0
@@ -76,18 +88,10 @@ pub record EndedUnserved (more : List Step) : Type 0 where
   pub token : Option (List ℕ)
   pub last : last_heard_after None more ≡ Some (Ask Own (Delta token) false true)
 
--- a pull over the image that was last then had this least item that does not fit, of the page that was answered last
-pub record EndedBad (images added : List Image) (log : List Step) (id : ItemId) : Type 0 where
-  pub before : List Image
-  pub after : List Image
-  pub split : added ≡ before ++ after
+-- a pull over the last image had this least item that does not fit, of the page that was answered last
+pub record EndedBad (images : List Image) (log : List Step) (id : ItemId) : Type 0 where
   pub old : List Step
-  pub bad : PullsBad (last_image (images ++ before)).items (last_image (images ++ before)).token old (Some log) id.0
-
--- so many looks at both sides: requests for changes that were answered, and listings of the root
-pub record Looked (rounds : ℕ) (more : List Step) (part : List LocalStep) : Type 0 where
-  pub answered : rounds ≤ count_by is_answered_delta more
-  pub listed : rounds ≤ count_by is_root_listing part
+  pub bad : PullsBad (last_image images).items (last_image images).token old (Some log) id.0
 
 -- a sync, from logs and images to those with more of each
 pub record Syncs (before now : Counts) (drive more : List Step) (local part : List LocalStep) (images added : List Image) (end : SyncEnd) : Type 0 where
@@ -99,10 +103,15 @@ pub record Syncs (before now : Counts) (drive more : List Step) (local part : Li
       → NoUser (since_listed (local ++ part)) → AreSame (local ++ part) (drive ++ more)
   pub unsettled_is_unlike : end ≡ Unsettled → IsSound (last_image images) drive → NoUser (since_listed (local ++ part))
       → AreSame (local ++ part) (drive ++ more) → ⊥
+  pub makes_what_the_drive_had : IsSound (last_image images) drive → AllByRecursion (IsFromDrive drive more) part
+  pub within_three_looks : IsWithin 3 more part
+  pub settled_looks : end ≡ Settled → IsSound (last_image images) drive → LastSame drive more local part
+  pub unsettled_looks : end ≡ Unsettled → IsSound (last_image images) drive → AllUnlike 3 drive more local part
+  pub ends_with_a_look : (end ≡ Settled) ⊎ (end ≡ Unsettled) → AllByRecursion IsLook (since_listed (local ++ part))
   pub settled_after_a_look : end ≡ Settled → Looked 1 more part
   pub unsettled_after_three : end ≡ Unsettled → Looked 3 more part
   pub never_bad : (id : ItemId) → end ≡ BadPages id → IsSound (last_image images) drive → ⊥
-  pub bad_pages : (id : ItemId) → end ≡ BadPages id → EndedBad images added (drive ++ more) id
+  pub bad_pages : (id : ItemId) → end ≡ BadPages id → EndedBad (images ++ added) (drive ++ more) id
   pub unserved : end ≡ Unserved → EndedUnserved more
   pub quiet_settles : IsQuiet before now more part → (local_of local).spots ≡ [] → last_image images ≡ empty_image → (end ≡ Settled) ⊎ (end ≡ Memory)
   pub stays_servable : AreOwnServed more → HasServable (last_image images) drive → HasServable (last_image (images ++ added)) (drive ++ more)

@@ -1,12 +1,9 @@
 -- What one look of a scan shows, what one visit finds in a folder that the user leaves alone, and what waits then.
-use Rattle.std.specs.Prelude.{◌≡◌, Bool, true, false, ℕ, List, [], ◌∷◌, ◌++◌, map, cond, Option, Some, None}
+use Rattle.std.specs.Prelude.{◌≡◌, Bool, true, false, ℕ, List, [], ◌∷◌, ◌++◌, map, Option, Some, None}
 use Rattle.std.specs.List.{AllByRecursion, list_any}
-use Rattle.std.specs.Option.{option_map}
-use Rattle.gd_item.specs.Records.{digest_record}
-use Rattle.gd_item.specs.declared.digest.Digest.{Digest}
 use Rattle.od_tree.specs.Calls.{edited}
 use Rattle.od_tree.specs.Listing.{entries_in}
-use Rattle.od_tree.specs.Local.{local_of, file_at, bytes_in, is_folder_at}
+use Rattle.od_tree.specs.Local.{local_of}
 use Rattle.od_tree.specs.Undisturbed.{NoUser}
 use Rattle.od_tree.specs.declared.edit.UserEdit.{UserEdit}
 use Rattle.od_tree.specs.declared.entry.Entry.{Entry}
@@ -15,9 +12,9 @@ use Rattle.od_tree.specs.declared.step.LocalStep.{LocalStep}
 use Rattle.od_tree.specs.declared.step.LocalStep.TheVariants.{Op}
 use Rattle.od_tree.specs.declared.step.TreeOp.{TreeOp}
 use Rattle.od_tree.specs.declared.step.TreeOp.TheVariants as op
+use Rattle.od_sync.specs.Findings.{digest_at, found_by, found_file, found_folder, listing_at}
 use Rattle.od_sync.specs.Scans.{IsLook, is_root_listing}
 use Rattle.od_sync.specs.declared.scanning.Node.{Node}
-use Rattle.od_sync.specs.declared.scanning.Node.TheVariants.{Folder, File}
 use Rattle.od_sync.specs.declared.waiting.Waiting.{Waiting}
 
 -- the operation, if what it looks for is there
@@ -34,23 +31,18 @@ pub record Shown {X : Type 0} (call : TreeOp) (value : List Spot → Option X) (
 pub record Shows {X : Type 0} (call : TreeOp) (value : List Spot → Option X) (shown : Option X) (before after : Option (List LocalStep)) : Type 0 where
   pub told : (old : List LocalStep) → before ≡ Some old → Shown call value shown old after
 
--- the log grows by steps that look below the root, and without edits of the user something holds of the entries
-pub record Seen (Fact : List Spot → Type 0) (old : List LocalStep) (after : Option (List LocalStep)) : Type 0 where
+-- the log grows by steps that look below the root, and what they find is added to what was found; without edits of the user
+-- something holds of the entries
+pub record Seen (found found_now : List (List (List ℕ) × Node)) (Fact : List Spot → Type 0) (old : List LocalStep) (after : Option (List LocalStep)) : Type 0 where
   pub part : List LocalStep
   pub looks : AllByRecursion IsLook part
   pub below : list_any is_root_listing part ≡ false
   pub grown : after ≡ Some (old ++ part)
+  pub found_is : found_now ≡ found ++ found_by old part
   pub fact : NoUser part → Fact (local_of old).spots
 
-pub record Sees (Fact : List Spot → Type 0) (before after : Option (List LocalStep)) : Type 0 where
-  pub told : (old : List LocalStep) → before ≡ Some old → Seen Fact old after
-
--- the digest of the file at a path, and the entries of the folder there
-abbrev pub digest_at : List (List ℕ) → List Spot → Option Digest
-digest_at at spots = option_map digest_record (bytes_in (file_at at spots))
-
-abbrev pub listing_at : List (List ℕ) → List Spot → Option (List Entry)
-listing_at at spots = cond (is_folder_at at spots) (Some (entries_in at spots)) None
+pub record Sees (found found_now : List (List (List ℕ) × Node)) (Fact : List Spot → Type 0) (before after : Option (List LocalStep)) : Type 0 where
+  pub told : (old : List LocalStep) → before ≡ Some old → Seen found found_now Fact old after
 
 -- a path that waits, and whether it is a folder
 abbrev pub Turn : Type 0
@@ -77,15 +69,7 @@ pub record Begun (stack stack_now : List Turn) (old : List LocalStep) (after : O
 pub record Begins (stack stack_now : List Turn) (before after : Option (List LocalStep)) : Type 0 where
   pub told : (old : List LocalStep) → before ≡ Some old → Begun stack stack_now old after
 
--- what is found at a path
-abbrev pub found_file : List (List ℕ) → Option Digest → List (List (List ℕ) × Node)
-found_file at None = []
-found_file at (Some digest) = (at, File digest) ∷ []
-
-abbrev pub found_folder : List (List ℕ) → Option (List Entry) → List (List (List ℕ) × Node)
-found_folder at None = []
-found_folder at (Some entries) = (at, Folder) ∷ []
-
+-- what is found at a path that waits
 abbrev pub found_at : List (List ℕ) → Bool → List Spot → List (List (List ℕ) × Node)
 found_at at true spots = found_folder at (listing_at at spots)
 found_at at false spots = found_file at (digest_at at spots)

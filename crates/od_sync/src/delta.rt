@@ -1,7 +1,7 @@
 ghost use Rattle.std.specs.Prelude.{◌≡◌, ◌∷◌, [], true, Some, None, IfOk, IfErr};
-ghost use Rattle.od_transfer.specs.Asking.{Grows, is_last_link, may_answer_delta};
+ghost use Rattle.od_transfer.specs.Asking.{is_last_link, may_answer_delta};
 ghost use Rattle.od_transfer.specs.Undisturbed.{Undisturbed, MayBeServed};
-ghost use Rattle.od_sync.specs.Deltas.{DeltaAsks, IsAskedWith, HasDeltaCause, SendsOnce, HasSendCause, is_delta, page_in};
+ghost use Rattle.od_sync.specs.Deltas.{AsksDelta, DeltaAsks, HasDeltaCause, SendsOnce, HasSendCause, is_delta, page_in};
 
 use gd_item::{Page, Reply, Request};
 use gd_names::{NoMemory, Text};
@@ -99,7 +99,7 @@ pub fn ask_delta<R: Remote>(
     token: Option<Text>,
 ) -> Result<Page, DeltaFault>
     ensures log { DeltaAsks (Request.Delta token) (R.log remote.old) (R.log remote.new) result }
-    ensures grows { Grows (IsAskedWith token) (R.log remote.old) (R.log remote.new) }
+    ensures asks { AsksDelta token (R.log remote.old) (R.log remote.new) }
     ensures cause { HasDeltaCause (R.faults remote.old) (R.faults remote.new) (R.answers remote.old) (R.answers remote.new) (R.in_row remote.new) result }
     ensures undisturbed { Undisturbed (R.undisturbed remote.old) (R.undisturbed remote.new) (R.log remote.old) (R.log remote.new) }
     ensures no_faults { R.undisturbed remote.old ≡ true → MayBeServed (Request.Delta token) (R.log remote.old) → R.faults remote.new ≡ R.faults remote.old }

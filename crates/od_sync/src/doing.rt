@@ -1,14 +1,15 @@
-ghost use Rattle.std.specs.Prelude.{◌≡◌, ◌<◌, ◌≤◌, [], ◌∷◌, cond, filter, take, length, sum_by, IfOk, OnOk};
-ghost use Rattle.std.specs.List.{All};
+ghost use Rattle.std.specs.Prelude.{◌≡◌, ◌<◌, ◌≤◌, ℕ, List, [], ◌∷◌, Some, cond, filter, take, length, sum_by, IfOk, OnOk};
+ghost use Rattle.std.specs.List.{All, AllZip};
 ghost use Rattle.std.specs.Option.{option_copied, option_to_list};
-ghost use Rattle.od_sync.specs.Doing.{AreRowsOf, Makes, MakesAll, PlacesAll, is_below_any, is_tried, most_bytes, most_jobs, placed_row};
-ghost use Rattle.od_sync.specs.Making.{MakesNext, MakesOne, PlacesFetched, PlacesOn, PlacesOne, bytes_of, paths_in};
-ghost use Rattle.od_sync.specs.Scans.{HasScanCause};
+ghost use Rattle.gd_item.specs.Records.{digest_record};
+ghost use Rattle.od_sync.specs.Doing.{AreRowsOf, GivesRows, IsBroughtTo, IsFetchFit, IsFileAt, IsFolderOf, Makes, MakesAll, NoFile, NoFolder, PlacesAll, PlacesThese, is_below_any, is_tried, most_bytes, most_jobs, placed_row};
+ghost use Rattle.od_sync.specs.Making.{MakesNext, MakesOne, PlacesFetched, PlacesOne, bytes_of};
+ghost use Rattle.od_sync.specs.Scans.{HasFolderCause};
 ghost use Rattle.od_tree.specs.Undisturbed.{Undisturbed};
 
 use crate::agreeing::push_if_some;
 use crate::planning::Fetching;
-use crate::scanning::ScanFault;
+use crate::scanning::FolderFault;
 use gd_names::{Bytes, List, Path};
 use od_keeper::{Agreed, BaseRow};
 use od_transfer::Outcome;
@@ -34,11 +35,11 @@ fn is_below_any(tops: &[Path], path: &Path) -> bool
 }
 
 /// Makes a folder, and says whether it could be made.
-fn make_folder<T: Tree>(tree: &mut T, folder: &Path) -> Result<bool, ScanFault>
+fn make_folder<T: Tree>(tree: &mut T, folder: &Path) -> Result<bool, FolderFault>
     requires { 0 < length folder.now }
-    ensures log { Makes (T.log tree.old) (T.log tree.new) }
+    ensures log { Makes (IsFolderOf (folder.now ∷ [])) NoFile (T.log tree.old) (T.log tree.new) }
     ensures made { IfOk result (λ made. MakesOne folder.now (T.log tree.old) (T.log tree.new) made) }
-    ensures cause { HasScanCause (T.faults tree.old) (T.faults tree.new) result }
+    ensures cause { HasFolderCause (T.faults tree.old) (T.faults tree.new) result }
     ensures undisturbed { Undisturbed (T.undisturbed tree.old) (T.undisturbed tree.new) (T.faults tree.old) (T.faults tree.new) (T.log tree.old) (T.log tree.new) }
 {
     match tree.make_dir(folder) {
@@ -46,17 +47,21 @@ fn make_folder<T: Tree>(tree: &mut T, folder: &Path) -> Result<bool, ScanFault>
         Err(TreeFault::Taken) => Ok(false),
         Err(TreeFault::Missing) => Ok(false),
         Err(TreeFault::NotEmpty) => unreachable!(),
-        Err(TreeFault::Failed) => Err(ScanFault::Failed),
-        Err(TreeFault::Memory) => Err(ScanFault::Memory),
+        Err(TreeFault::Failed) => Err(FolderFault::Failed),
+        Err(TreeFault::Memory) => Err(FolderFault::Memory),
     }
 }
 
 /// Makes a folder, unless it is below one that could not be made, and notes it if it cannot be made either.
-fn make_next<T: Tree>(tree: &mut T, barred: &mut List<Path>, folder: &Path) -> Result<(), ScanFault>
+fn make_next<T: Tree>(
+    tree: &mut T,
+    barred: &mut List<Path>,
+    folder: &Path,
+) -> Result<(), FolderFault>
     requires { 0 < length folder.now }
-    ensures log { Makes (T.log tree.old) (T.log tree.new) }
+    ensures log { Makes (IsFolderOf (folder.now ∷ [])) NoFile (T.log tree.old) (T.log tree.new) }
     ensures made { OnOk result (MakesNext folder.now barred.old barred.new (T.log tree.old) (T.log tree.new)) }
-    ensures cause { HasScanCause (T.faults tree.old) (T.faults tree.new) result }
+    ensures cause { HasFolderCause (T.faults tree.old) (T.faults tree.new) result }
     ensures undisturbed { Undisturbed (T.undisturbed tree.old) (T.undisturbed tree.new) (T.faults tree.old) (T.faults tree.new) (T.log tree.old) (T.log tree.new) }
 {
     if is_below_any(barred.as_slice(), folder) {
@@ -73,11 +78,11 @@ pub fn make_folders<T: Tree>(
     alloc: Global,
     tree: &mut T,
     folders: &[Path],
-) -> Result<List<Path>, ScanFault>
+) -> Result<List<Path>, FolderFault>
     requires { All (λ folder. 0 < length folder) folders.now }
-    ensures log { Makes (T.log tree.old) (T.log tree.new) }
+    ensures log { Makes (IsFolderOf folders.now) NoFile (T.log tree.old) (T.log tree.new) }
     ensures made { IfOk result (λ barred. MakesAll folders.now (T.log tree.old) (T.log tree.new) barred) }
-    ensures cause { HasScanCause (T.faults tree.old) (T.faults tree.new) result }
+    ensures cause { HasFolderCause (T.faults tree.old) (T.faults tree.new) result }
     ensures undisturbed { Undisturbed (T.undisturbed tree.old) (T.undisturbed tree.new) (T.faults tree.old) (T.faults tree.new) (T.log tree.old) (T.log tree.new) }
 {
     let mut barred = List::new(alloc);
@@ -88,12 +93,12 @@ pub fn make_folders<T: Tree>(
 }
 
 /// Places a file, and says whether it could be placed.
-fn place_file<T: Tree>(tree: &mut T, path: &Path, bytes: &[u8]) -> Result<bool, ScanFault>
+fn place_file<T: Tree>(tree: &mut T, path: &Path, bytes: &[u8]) -> Result<bool, FolderFault>
     requires { 0 < length path.now }
-    ensures log { Makes (T.log tree.old) (T.log tree.new) }
+    ensures log { Makes NoFolder (IsFileAt path.now (Some bytes.now)) (T.log tree.old) (T.log tree.new) }
     ensures placed { IfOk result (λ placed. PlacesOne (path.now, bytes.now) (T.log tree.old) (T.log tree.new) placed) }
-    ensures on { IfOk result (λ placed. PlacesOn (cond placed (path.now ∷ []) []) (T.log tree.old) (T.log tree.new)) }
-    ensures cause { HasScanCause (T.faults tree.old) (T.faults tree.new) result }
+    ensures just { IfOk result (λ placed. PlacesThese (cond placed ((path.now, bytes.now) ∷ []) []) (T.log tree.old) (T.log tree.new)) }
+    ensures cause { HasFolderCause (T.faults tree.old) (T.faults tree.new) result }
     ensures undisturbed { Undisturbed (T.undisturbed tree.old) (T.undisturbed tree.new) (T.faults tree.old) (T.faults tree.new) (T.log tree.old) (T.log tree.new) }
 {
     match tree.place(path, bytes) {
@@ -101,8 +106,8 @@ fn place_file<T: Tree>(tree: &mut T, path: &Path, bytes: &[u8]) -> Result<bool, 
         Err(TreeFault::Taken) => Ok(false), // nothing is overwritten
         Err(TreeFault::Missing) => Ok(false),
         Err(TreeFault::NotEmpty) => unreachable!(),
-        Err(TreeFault::Failed) => Err(ScanFault::Failed),
-        Err(TreeFault::Memory) => Err(ScanFault::Memory),
+        Err(TreeFault::Failed) => Err(FolderFault::Failed),
+        Err(TreeFault::Memory) => Err(FolderFault::Memory),
     }
 }
 
@@ -134,13 +139,14 @@ fn place_fetched<T: Tree>(
     tree: &mut T,
     fetch: &Fetching,
     fetched: Option<&Bytes>,
-) -> Result<Option<BaseRow>, ScanFault>
-    requires { 0 < length fetch.now.path }
-    ensures log { Makes (T.log tree.old) (T.log tree.new) }
+) -> Result<Option<BaseRow>, FolderFault>
+    requires below { 0 < length fetch.now.path }
+    requires fit { (bytes : List ℕ) → option_copied fetched ≡ Some bytes → digest_record bytes ≡ fetch.now.digest }
+    ensures log { Makes NoFolder (IsFileAt fetch.now.path (option_copied fetched.entry)) (T.log tree.old) (T.log tree.new) }
     ensures placed { OnOk result (PlacesFetched fetch.now (option_copied fetched.entry) (T.log tree.old) (T.log tree.new)) }
-    ensures on { IfOk result (λ row. PlacesOn (paths_in (option_to_list row)) (T.log tree.old) (T.log tree.new)) }
+    ensures rows { IfOk result (λ row. GivesRows (option_to_list row) (T.log tree.old) (T.log tree.new)) }
     ensures accepted { IfOk result (λ row. AreRowsOf (fetch.now ∷ []) (option_to_list row)) }
-    ensures cause { HasScanCause (T.faults tree.old) (T.faults tree.new) result }
+    ensures cause { HasFolderCause (T.faults tree.old) (T.faults tree.new) result }
     ensures undisturbed { Undisturbed (T.undisturbed tree.old) (T.undisturbed tree.new) (T.faults tree.old) (T.faults tree.new) (T.log tree.old) (T.log tree.new) }
 {
     match fetched {
@@ -161,14 +167,15 @@ pub fn place_files<T: Tree>(
     tree: &mut T,
     batch: &[Fetching],
     outcomes: &[Outcome],
-) -> Result<List<BaseRow>, ScanFault>
+) -> Result<List<BaseRow>, FolderFault>
     requires same { length batch.now ≡ length outcomes.now }
     requires below { All (λ fetch. 0 < length fetch.path) batch.now }
-    ensures log { Makes (T.log tree.old) (T.log tree.new) }
+    requires fits { AllZip IsFetchFit batch.now outcomes.now }
+    ensures log { Makes NoFolder (IsBroughtTo batch.now outcomes.now) (T.log tree.old) (T.log tree.new) }
     ensures placed { OnOk result (PlacesAll batch.now outcomes.now (T.log tree.old) (T.log tree.new)) }
-    ensures on { IfOk result (λ rows. PlacesOn (paths_in rows) (T.log tree.old) (T.log tree.new)) }
+    ensures rows { IfOk result (λ rows. GivesRows rows (T.log tree.old) (T.log tree.new)) }
     ensures accepted { IfOk result (λ rows. AreRowsOf batch.now rows) }
-    ensures cause { HasScanCause (T.faults tree.old) (T.faults tree.new) result }
+    ensures cause { HasFolderCause (T.faults tree.old) (T.faults tree.new) result }
     ensures undisturbed { Undisturbed (T.undisturbed tree.old) (T.undisturbed tree.new) (T.faults tree.old) (T.faults tree.new) (T.log tree.old) (T.log tree.new) }
 {
     let mut rows = List::new(alloc);

@@ -1,7 +1,7 @@
 ghost use Rattle.std.specs.Prelude.{◌≡◌};
 
 use crate::pulling::PullStop;
-use crate::scanning::ScanFault;
+use crate::scanning::FolderFault;
 use gd_item::ItemId;
 use gd_names::NoMemory;
 use od_keeper::KeeperFault;
@@ -105,15 +105,15 @@ impl From<PullStop> for SyncStop {
     }
 }
 
-impl From<ScanFault> for SyncStop {
-    ghost use Rattle.od_sync.specs.Ends.{stop_of_scan};
+impl From<FolderFault> for SyncStop {
+    ghost use Rattle.od_sync.specs.Ends.{stop_of_folder};
 
-    ghost from_gives = { λ cause stop. stop ≡ stop_of_scan cause };
+    ghost from_gives = { λ cause stop. stop ≡ stop_of_folder cause };
 
-    fn from(cause: ScanFault) -> SyncStop {
+    fn from(cause: FolderFault) -> SyncStop {
         match cause {
-            ScanFault::Failed => SyncStop::TreeFault,
-            ScanFault::Memory => SyncStop::Memory,
+            FolderFault::Failed => SyncStop::TreeFault,
+            FolderFault::Memory => SyncStop::Memory,
         }
     }
 }

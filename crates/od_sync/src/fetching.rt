@@ -1,6 +1,7 @@
 ghost use Rattle.std.specs.Prelude.{◌≡◌, ◌<◌, ◌≤◌, true, [], map, length, IfOk, IfErr, OnErr, OnOk};
-ghost use Rattle.std.specs.List.{All};
+ghost use Rattle.std.specs.List.{All, AllZip};
 ghost use Rattle.gd_item.specs.Steps.{accepted_by};
+ghost use Rattle.od_keeper.specs.Images.{by_path, put_all};
 ghost use Rattle.od_keeper.specs.Keeping.{HasKeeperCause, Stay};
 ghost use Rattle.od_keeper.specs.Sound.{IsSound};
 ghost use Rattle.od_keeper.specs.Undisturbed as keeper_alone;
@@ -9,9 +10,9 @@ ghost use Rattle.od_transfer.specs.Fits.{IsTransfer};
 ghost use Rattle.od_transfer.specs.Undisturbed as remote_alone;
 ghost use Rattle.od_tree.specs.Undisturbed as tree_alone;
 ghost use Rattle.od_sync.specs.Batches.{BringsFiles, CommitsRows, Fetches, FetchesFiles, Stops, change_of_rows};
-ghost use Rattle.od_sync.specs.Doing.{AreAcceptedFetches, AreRowsOf, Makes, job_of, most_bytes};
+ghost use Rattle.od_sync.specs.Doing.{AreAcceptedFetches, AreRowsOf, GivesRows, IsFetchFit, IsFetchOf, IsFolderOf, Makes, NoFolder, PutsRows, job_of, most_bytes};
 ghost use Rattle.od_sync.specs.Ends.{HasStopCause, counts};
-ghost use Rattle.od_sync.specs.Scans.{HasScanCause};
+ghost use Rattle.od_sync.specs.Scans.{HasFolderCause};
 ghost use Rattle.od_sync.specs.Serving.{KeepsToken, Leaves};
 ghost use Rattle.od_sync.specs.Syncing.{Does, Goes, IsDoStop};
 
@@ -19,7 +20,7 @@ use crate::committing::commit;
 use crate::doing::{batch_length, make_folders, place_files, tried_fetches};
 use crate::ends::SyncStop;
 use crate::planning::{Fetching, Plan};
-use crate::scanning::ScanFault;
+use crate::scanning::FolderFault;
 use gd_names::{List, NoMemory};
 use od_keeper::{BaseRow, Change, Image, Keeper, KeeperFault};
 use od_transfer::{Carrier, Job, Outcome};
@@ -48,6 +49,7 @@ fn carry_batch<R: Carrier>(
     batch: &[Fetching],
 ) -> Result<List<Outcome>, NoMemory>
     ensures same { IfOk result (λ outcomes. length batch.now ≡ length outcomes) }
+    ensures fits { IfOk result (λ outcomes. AllZip IsFetchFit batch.now outcomes) }
     ensures log { Grows IsTransfer (R.log remote.old) (R.log remote.new) }
     ensures brings { IfOk result (λ outcomes. BringsFiles batch.now outcomes (R.faults remote.old) (R.faults remote.new) (R.log remote.old) (R.log remote.new)) }
     ensures faults_later { R.faults remote.old ≤ R.faults remote.new }
@@ -68,15 +70,16 @@ fn fetch_files<R: Carrier, T: Tree>(
     remote: &mut R,
     tree: &mut T,
     batch: &[Fetching],
-) -> Result<List<BaseRow>, ScanFault>
+) -> Result<List<BaseRow>, FolderFault>
     requires { All (λ fetch. 0 < length fetch.path) batch.now }
     ensures requests { Grows IsTransfer (R.log remote.old) (R.log remote.new) }
-    ensures steps { Makes (T.log tree.old) (T.log tree.new) }
+    ensures steps { Makes NoFolder (IsFetchOf batch.now) (T.log tree.old) (T.log tree.new) }
     ensures fetches { OnOk result (FetchesFiles batch.now (R.faults remote.old) (R.faults remote.new) (R.log remote.old) (R.log remote.new) (T.log tree.old) (T.log tree.new)) }
     ensures accepted { IfOk result (λ rows. AreRowsOf batch.now rows) }
+    ensures rows { IfOk result (λ rows. GivesRows rows (T.log tree.old) (T.log tree.new)) }
     ensures faults_later { R.faults remote.old ≤ R.faults remote.new }
     ensures answers_later { R.answers remote.old ≤ R.answers remote.new }
-    ensures cause { HasScanCause (T.faults tree.old) (T.faults tree.new) result }
+    ensures cause { HasFolderCause (T.faults tree.old) (T.faults tree.new) result }
     ensures remote_alone { remote_alone.Undisturbed (R.undisturbed remote.old) (R.undisturbed remote.new) (R.log remote.old) (R.log remote.new) }
     ensures no_faults { R.undisturbed remote.old ≡ true → R.faults remote.new ≡ R.faults remote.old }
     ensures tree_alone { tree_alone.Undisturbed (T.undisturbed tree.old) (T.undisturbed tree.new) (T.faults tree.old) (T.faults tree.new) (T.log tree.old) (T.log tree.new) }
@@ -111,6 +114,7 @@ fn commit_rows<K: Keeper>(
     rows: List<BaseRow>,
 ) -> Result<Image, KeeperFault>
     ensures commits { IfOk result (λ next. CommitsRows image rows next (K.images keeper.old) (K.images keeper.new)) }
+    ensures rows { IfOk result (λ next. next ≡ record image { rows = put_all by_path rows image.rows }) }
     ensures tokens { KeepsToken image (K.images keeper.old) (K.images keeper.new) }
     ensures stays { OnErr result (Stay (K.images keeper.old) (K.images keeper.new)) }
     ensures cause { HasKeeperCause (K.faults keeper.old) (K.faults keeper.new) result }
@@ -137,7 +141,9 @@ fn fetch_batch<R: Carrier, T: Tree, K: Keeper>(
 ) -> Result<Image, SyncStop>
     requires { All (λ fetch. 0 < length fetch.path) batch.now }
     ensures fetches { IfOk result (λ next. Fetches image batch.now next (R.faults remote.old) (R.faults remote.new) (R.log remote.old) (R.log remote.new) (T.log tree.old) (T.log tree.new) (K.images keeper.old) (K.images keeper.new)) }
+    ensures steps { Makes NoFolder (IsFetchOf batch.now) (T.log tree.old) (T.log tree.new) }
     ensures stops { OnErr result (Stops image [] (R.log remote.old) (R.log remote.new) (T.log tree.old) (T.log tree.new) (K.images keeper.old) (K.images keeper.new)) }
+    ensures rows { IfOk result (λ next. PutsRows image next (T.log tree.old) (T.log tree.new)) }
     ensures only { IfErr result IsDoStop }
     ensures requests { Grows IsTransfer (R.log remote.old) (R.log remote.new) }
     ensures tokens { KeepsToken image (K.images keeper.old) (K.images keeper.new) }
@@ -167,7 +173,9 @@ fn fetch_all<R: Carrier, T: Tree, K: Keeper>(
     requires below { All (λ fetch. 0 < length fetch.path) fetches.now }
     requires light { All (λ fetch. fetch.size ≤ most_bytes) fetches.now }
     ensures fetches { IfOk result (λ next. Fetches image fetches.now next (R.faults remote.old) (R.faults remote.new) (R.log remote.old) (R.log remote.new) (T.log tree.old) (T.log tree.new) (K.images keeper.old) (K.images keeper.new)) }
+    ensures steps { Makes NoFolder (IsFetchOf fetches.now) (T.log tree.old) (T.log tree.new) }
     ensures stops { Stops image fetches.now (R.log remote.old) (R.log remote.new) (T.log tree.old) (T.log tree.new) (K.images keeper.old) (K.images keeper.new) }
+    ensures rows { IfOk result (λ next. PutsRows image next (T.log tree.old) (T.log tree.new)) }
     ensures only { IfErr result IsDoStop }
     ensures requests { Grows IsTransfer (R.log remote.old) (R.log remote.new) }
     ensures tokens { KeepsToken image (K.images keeper.old) (K.images keeper.new) }
@@ -204,6 +212,8 @@ pub fn do_plan<R: Carrier, T: Tree, K: Keeper>(
     requires fetches { All (λ fetch. 0 < length fetch.path) plan.fetches }
     ensures goes { Goes (λ drive. IsSound image drive × AreAcceptedFetches (accepted_by drive) plan.fetches) image (R.log remote.old) (R.log remote.new) (T.log tree.old) (T.log tree.new) (K.images keeper.old) (K.images keeper.new) }
     ensures does { IfOk result (λ next. Does image plan next (R.faults remote.old) (R.faults remote.new) (R.log remote.old) (R.log remote.new) (T.log tree.old) (T.log tree.new) (K.images keeper.old) (K.images keeper.new)) }
+    ensures steps { Makes (IsFolderOf plan.folders) (IsFetchOf plan.fetches) (T.log tree.old) (T.log tree.new) }
+    ensures rows { IfOk result (λ next. PutsRows image next (T.log tree.old) (T.log tree.new)) }
     ensures stops { IfErr result IsDoStop }
     ensures requests { Grows IsTransfer (R.log remote.old) (R.log remote.new) }
     ensures tokens { KeepsToken image (K.images keeper.old) (K.images keeper.new) }

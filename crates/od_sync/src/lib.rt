@@ -36,5 +36,5 @@ pub use laws::{
 pub use looking::{Sides, look};
 pub use planning::{Fetching, Plan, make_plan};
 pub use pulling::{PullStop, pull};
-pub use scanning::{Node, ScanFault, scan};
+pub use scanning::{FolderFault, Node, scan};
 pub use syncing::sync_now;

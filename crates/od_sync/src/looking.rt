@@ -5,15 +5,16 @@ ghost use Rattle.gd_item.specs.Ids.{item_id};
 ghost use Rattle.gd_item.specs.declared.item.Item.{Item};
 ghost use Rattle.gd_item.specs.declared.request.Request.TheVariants.{Delta};
 ghost use Rattle.gd_item.specs.declared.step.Step.{Step};
-ghost use Rattle.od_keeper.specs.Keeping.{HasKeeperCause};
+ghost use Rattle.od_keeper.specs.Keeping.{HasKeeperCause, Stay};
 ghost use Rattle.od_keeper.specs.Sound.{IsSound};
 ghost use Rattle.od_keeper.specs.Undisturbed as keeper_alone;
 ghost use Rattle.od_transfer.specs.Undisturbed as remote_alone;
 ghost use Rattle.od_tree.specs.Undisturbed as tree_alone;
-ghost use Rattle.od_sync.specs.Deltas.{EndsUnserved};
+ghost use Rattle.od_sync.specs.Deltas.{AsksDelta, EndsUnserved};
 ghost use Rattle.od_sync.specs.Ends.{HasStopCause, counts};
 ghost use Rattle.od_sync.specs.Receiving.{AreSides, Keeps};
 ghost use Rattle.od_sync.specs.Pulls.{StopsBad};
+ghost use Rattle.od_sync.specs.Scans.{Looks};
 ghost use Rattle.od_sync.specs.Serving.{Leaves, Serves};
 ghost use Rattle.od_sync.specs.Syncing.{Goes, Meets};
 
@@ -74,8 +75,11 @@ pub fn look<R: Remote, T: Tree, K: Keeper>(
 ) -> Result<Sides, SyncStop>
     ensures goes { Goes (λ drive. IsSound image drive) image (R.log remote.old) (R.log remote.new) (T.log tree.old) (T.log tree.new) (K.images keeper.old) (K.images keeper.new) }
     ensures meets { IfOk result (λ sides. Meets image sides (R.log remote.old) (R.log remote.new) (T.log tree.old) (T.log tree.new) (K.images keeper.old) (K.images keeper.new)) }
+    ensures looks { Looks 1 (T.log tree.old) (T.log tree.new) }
+    ensures asks { AsksDelta image.token (R.log remote.old) (R.log remote.new) }
     ensures below { IfOk result (λ sides. All (λ (entry : List (List ℕ) × Item). 0 < length entry.0) sides.remote) }
     ensures bad { (n : ℕ) → IsErrOf result (SyncStop.BadPages (item_id n)) → StopsBad image.items image.token (R.log remote.old) (R.log remote.new) n }
+    ensures bad_stays { (n : ℕ) → IsErrOf result (SyncStop.BadPages (item_id n)) → Stay (K.images keeper.old) (K.images keeper.new) }
     ensures unserved { IsErrOf result SyncStop.Unserved → (drive : List Step) → R.log remote.old ≡ Some drive → EndsUnserved (Delta image.token) drive (R.log remote.new) }
     ensures serves { Serves image (R.log remote.old) (R.log remote.new) (K.images keeper.old) (K.images keeper.new) }
     ensures last { IfOk result (λ sides. Leaves image sides.image (K.images keeper.old) (K.images keeper.new)) }

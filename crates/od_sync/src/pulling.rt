@@ -3,9 +3,9 @@ ghost use Rattle.std.specs.Map.{values_of};
 ghost use Rattle.gd_item.specs.Ids.{item_id};
 ghost use Rattle.gd_item.specs.declared.request.Request.TheVariants.{Delta};
 ghost use Rattle.od_mirror.specs.Pulled.{after_page, nodes, AllFit, IsLeastBad};
-ghost use Rattle.od_transfer.specs.Asking.{Grows, is_last_link};
+ghost use Rattle.od_transfer.specs.Asking.{is_last_link};
 ghost use Rattle.od_transfer.specs.Undisturbed.{Undisturbed, MayBeServed};
-ghost use Rattle.od_sync.specs.Deltas.{IsAskedWith};
+ghost use Rattle.od_sync.specs.Deltas.{AsksDelta};
 ghost use Rattle.od_sync.specs.Pulls.{IsView, Pulls, StopsBad, StopsUnserved, HasPullCause};
 
 use crate::delta::{DeltaFault, ask_delta};
@@ -74,7 +74,7 @@ pub fn pull<R: Remote>(
     ensures fit { IfOk result (λ view. AllFit (nodes view.items)) }
     ensures bad { (n : ℕ) → IsErrOf result (PullStop.BadPages (item_id n)) → StopsBad items token (R.log remote.old) (R.log remote.new) n }
     ensures unserved { IsErrOf result PullStop.Unserved → StopsUnserved token (R.log remote.old) (R.log remote.new) }
-    ensures grows { Grows (IsAskedWith token) (R.log remote.old) (R.log remote.new) }
+    ensures asks { AsksDelta token (R.log remote.old) (R.log remote.new) }
     ensures cause { HasPullCause (R.faults remote.old) (R.faults remote.new) (R.answers remote.old) (R.answers remote.new) (R.in_row remote.new) result }
     ensures undisturbed { Undisturbed (R.undisturbed remote.old) (R.undisturbed remote.new) (R.log remote.old) (R.log remote.new) }
     ensures no_faults { R.undisturbed remote.old ≡ true → MayBeServed (Delta token) (R.log remote.old) → R.faults remote.new ≡ R.faults remote.old }

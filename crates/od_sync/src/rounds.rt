@@ -3,8 +3,12 @@ ghost use Rattle.std.specs.List.{All};
 ghost use Rattle.gd_names.specs.Streams.{Rose};
 ghost use Rattle.gd_item.specs.declared.item.Item.{Item};
 ghost use Rattle.od_keeper.specs.Sound.{IsSound};
+ghost use Rattle.od_transfer.specs.Asking.{Grows};
+ghost use Rattle.od_transfer.specs.Fits.{IsTransfer};
 ghost use Rattle.od_sync.specs.Comparing.{is_same};
+ghost use Rattle.od_sync.specs.Doing.{IsFetchOf, IsFolderOf, Makes};
 ghost use Rattle.od_sync.specs.Ends.{HasStopCause, counts};
+ghost use Rattle.od_sync.specs.Planning.{planned_fetches, planned_folders};
 ghost use Rattle.od_sync.specs.Rounds.{Acts, AllAlone, AreKindsAccepted, HasRunCause, Rounds, Runs};
 ghost use Rattle.od_sync.specs.Serving.{Leaves, Serves, StartsWith};
 ghost use Rattle.od_sync.specs.Syncing.{Goes, IsDoStop};
@@ -38,7 +42,9 @@ fn act<R: Carrier, T: Tree, K: Keeper>(
     requires { All (λ (entry : List (List ℕ) × Item). 0 < length entry.0) sides.remote }
     ensures goes { Goes (λ drive. IsSound sides.image drive × AreKindsAccepted drive sides) sides.image (R.log remote.old) (R.log remote.new) (T.log tree.old) (T.log tree.new) (K.images keeper.old) (K.images keeper.new) }
     ensures acts { IfOk result (λ next. Acts sides next (R.faults remote.old) (R.faults remote.new) (R.log remote.old) (R.log remote.new) (T.log tree.old) (T.log tree.new) (K.images keeper.old) (K.images keeper.new)) }
+    ensures steps { Makes (IsFolderOf (planned_folders sides.image.rows sides.local sides.remote)) (IsFetchOf (planned_fetches sides.image.rows sides.local sides.remote)) (T.log tree.old) (T.log tree.new) }
     ensures stops { IfErr result IsDoStop }
+    ensures requests { Grows IsTransfer (R.log remote.old) (R.log remote.new) }
     ensures serves { Serves sides.image (R.log remote.old) (R.log remote.new) (K.images keeper.old) (K.images keeper.new) }
     ensures last { IfOk result (λ next. Leaves sides.image next (K.images keeper.old) (K.images keeper.new)) }
     ensures cause { HasStopCause

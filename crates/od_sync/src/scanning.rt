@@ -2,8 +2,9 @@ ghost use Rattle.std.specs.Prelude.{◌≡◌, ◌<◌, ◌++◌, ◌∷◌, [],
 ghost use Rattle.std.specs.List.{All};
 ghost use Rattle.od_tree.specs.Undisturbed.{Undisturbed};
 ghost use Rattle.od_tree.specs.declared.step.TreeOp.TheVariants as op;
-ghost use Rattle.od_sync.specs.Scans.{Looks, Finds, HasScanCause};
-ghost use Rattle.od_sync.specs.Visits.{Shows, Sees, Visits, Begins, digest_at, listing_at, found_file, turns, pushed};
+ghost use Rattle.od_sync.specs.Scans.{Looks, Finds, HasFolderCause};
+ghost use Rattle.od_sync.specs.Findings.{digest_at, listing_at, found_file};
+ghost use Rattle.od_sync.specs.Visits.{Shows, Sees, Visits, Begins, turns, pushed};
 
 use crate::waiting::Waiting;
 use gd_item::{Digest, digest_of};
@@ -25,42 +26,42 @@ impl Exact for Node {
     ghost exact = { Prim.search rules };
 }
 
-/// Why a scan has no end.
+/// Why the folder could not be looked at, or changed.
 #[derive(Clone, Copy, Debug, PartialEq, Eq, Error)]
-pub enum ScanFault {
+pub enum FolderFault {
     #[error("the folder cannot be reached")]
     Failed,
     #[error("out of memory")]
     Memory,
 }
 
-impl From<NoMemory> for ScanFault {
-    ghost use Rattle.od_sync.specs.declared.scanning.ScanFault.TheVariants.{Memory};
+impl From<NoMemory> for FolderFault {
+    ghost use Rattle.od_sync.specs.declared.scanning.FolderFault.TheVariants.{Memory};
 
     ghost from_gives = { λ _ fault. fault ≡ Memory };
 
-    fn from(_error: NoMemory) -> ScanFault {
-        ScanFault::Memory
+    fn from(_error: NoMemory) -> FolderFault {
+        FolderFault::Memory
     }
 }
 
-impl From<AllocError> for ScanFault {
-    ghost use Rattle.od_sync.specs.declared.scanning.ScanFault.TheVariants.{Memory};
+impl From<AllocError> for FolderFault {
+    ghost use Rattle.od_sync.specs.declared.scanning.FolderFault.TheVariants.{Memory};
 
     ghost from_gives = { λ _ fault. fault ≡ Memory };
 
-    fn from(_error: AllocError) -> ScanFault {
-        ScanFault::Memory
+    fn from(_error: AllocError) -> FolderFault {
+        FolderFault::Memory
     }
 }
 
-impl<T: Drop> From<AllocFailed<T>> for ScanFault {
-    ghost use Rattle.od_sync.specs.declared.scanning.ScanFault.TheVariants.{Memory};
+impl<T: Drop> From<AllocFailed<T>> for FolderFault {
+    ghost use Rattle.od_sync.specs.declared.scanning.FolderFault.TheVariants.{Memory};
 
     ghost from_gives = { λ _ fault. fault ≡ Memory };
 
-    fn from(_error: AllocFailed<T>) -> ScanFault {
-        ScanFault::Memory
+    fn from(_error: AllocFailed<T>) -> FolderFault {
+        FolderFault::Memory
     }
 }
 
@@ -69,18 +70,18 @@ fn look_at_file<T: Tree>(
     tree: &mut T,
     alloc: Global,
     at: &Path,
-) -> Result<Option<Digest>, ScanFault>
+) -> Result<Option<Digest>, FolderFault>
     requires { 0 < length at.now }
-    ensures log { Looks (T.log tree.old) (T.log tree.new) }
-    ensures cause { HasScanCause (T.faults tree.old) (T.faults tree.new) result }
+    ensures log { Looks 0 (T.log tree.old) (T.log tree.new) }
+    ensures cause { HasFolderCause (T.faults tree.old) (T.faults tree.new) result }
     ensures undisturbed { Undisturbed (T.undisturbed tree.old) (T.undisturbed tree.new) (T.faults tree.old) (T.faults tree.new) (T.log tree.old) (T.log tree.new) }
     ensures found { IfOk result (λ digest. Shows (op.Read at.now) (digest_at at.now) digest (T.log tree.old) (T.log tree.new)) }
 {
     match tree.read(alloc, at) {
         Ok(bytes) => Ok(Some(digest_of(bytes.as_slice()))),
         Err(TreeFault::Missing) => Ok(None),
-        Err(TreeFault::Failed) => Err(ScanFault::Failed),
-        Err(TreeFault::Memory) => Err(ScanFault::Memory),
+        Err(TreeFault::Failed) => Err(FolderFault::Failed),
+        Err(TreeFault::Memory) => Err(FolderFault::Memory),
         Err(TreeFault::Taken) => unreachable!(),
         Err(TreeFault::NotEmpty) => unreachable!(),
     }
@@ -91,17 +92,18 @@ fn look_at_folder<T: Tree>(
     tree: &mut T,
     alloc: Global,
     at: &Path,
-) -> Result<Option<List<Entry>>, ScanFault>
-    ensures log { Looks (T.log tree.old) (T.log tree.new) }
-    ensures cause { HasScanCause (T.faults tree.old) (T.faults tree.new) result }
+) -> Result<Option<List<Entry>>, FolderFault>
+    ensures log { Looks 1 (T.log tree.old) (T.log tree.new) }
+    ensures below { 0 < length at.now → Looks 0 (T.log tree.old) (T.log tree.new) }
+    ensures cause { HasFolderCause (T.faults tree.old) (T.faults tree.new) result }
     ensures undisturbed { Undisturbed (T.undisturbed tree.old) (T.undisturbed tree.new) (T.faults tree.old) (T.faults tree.new) (T.log tree.old) (T.log tree.new) }
     ensures found { IfOk result (λ entries. Shows (op.List at.now) (listing_at at.now) entries (T.log tree.old) (T.log tree.new)) }
 {
     match tree.list(alloc, at) {
         Ok(entries) => Ok(Some(entries)),
         Err(TreeFault::Missing) => Ok(None),
-        Err(TreeFault::Failed) => Err(ScanFault::Failed),
-        Err(TreeFault::Memory) => Err(ScanFault::Memory),
+        Err(TreeFault::Failed) => Err(FolderFault::Failed),
+        Err(TreeFault::Memory) => Err(FolderFault::Memory),
         Err(TreeFault::Taken) => unreachable!(),
         Err(TreeFault::NotEmpty) => unreachable!(),
     }
@@ -145,12 +147,12 @@ fn visit_file<T: Tree>(
     alloc: Global,
     at: Path,
     found: &mut Vec<(Path, Node)>,
-) -> Result<(), ScanFault>
+) -> Result<(), FolderFault>
     requires { 0 < length at }
-    ensures log { Looks (T.log tree.old) (T.log tree.new) }
-    ensures cause { HasScanCause (T.faults tree.old) (T.faults tree.new) result }
+    ensures log { Looks 0 (T.log tree.old) (T.log tree.new) }
+    ensures cause { HasFolderCause (T.faults tree.old) (T.faults tree.new) result }
     ensures undisturbed { Undisturbed (T.undisturbed tree.old) (T.undisturbed tree.new) (T.faults tree.old) (T.faults tree.new) (T.log tree.old) (T.log tree.new) }
-    ensures found { OnOk result (Sees (λ spots. found.new.items ≡ found.old.items ++ found_file at (digest_at at spots)) (T.log tree.old) (T.log tree.new)) }
+    ensures found { OnOk result (Sees found.old.items found.new.items (λ spots. found.new.items ≡ found.old.items ++ found_file at (digest_at at spots)) (T.log tree.old) (T.log tree.new)) }
 {
     let digest = look_at_file(tree, alloc, &at)?;
     match digest {
@@ -169,12 +171,12 @@ fn visit_folder<T: Tree>(
     at: Path,
     waiting: &mut Vec<Waiting>,
     found: &mut Vec<(Path, Node)>,
-) -> Result<(), ScanFault>
+) -> Result<(), FolderFault>
     requires { 0 < length at }
-    ensures log { Looks (T.log tree.old) (T.log tree.new) }
-    ensures cause { HasScanCause (T.faults tree.old) (T.faults tree.new) result }
+    ensures log { Looks 0 (T.log tree.old) (T.log tree.new) }
+    ensures cause { HasFolderCause (T.faults tree.old) (T.faults tree.new) result }
     ensures undisturbed { Undisturbed (T.undisturbed tree.old) (T.undisturbed tree.new) (T.faults tree.old) (T.faults tree.new) (T.log tree.old) (T.log tree.new) }
-    ensures found { OnOk result (Sees (Visits at true found.old.items found.new.items (turns waiting.old.items) (turns waiting.new.items)) (T.log tree.old) (T.log tree.new)) }
+    ensures found { OnOk result (Sees found.old.items found.new.items (Visits at true found.old.items found.new.items (turns waiting.old.items) (turns waiting.new.items)) (T.log tree.old) (T.log tree.new)) }
 {
     let entries = look_at_folder(tree, alloc, &at)?;
     match entries {
@@ -193,11 +195,11 @@ fn visit<T: Tree>(
     next: Waiting,
     waiting: &mut Vec<Waiting>,
     found: &mut Vec<(Path, Node)>,
-) -> Result<(), ScanFault>
-    ensures log { Looks (T.log tree.old) (T.log tree.new) }
-    ensures cause { HasScanCause (T.faults tree.old) (T.faults tree.new) result }
+) -> Result<(), FolderFault>
+    ensures log { Looks 0 (T.log tree.old) (T.log tree.new) }
+    ensures cause { HasFolderCause (T.faults tree.old) (T.faults tree.new) result }
     ensures undisturbed { Undisturbed (T.undisturbed tree.old) (T.undisturbed tree.new) (T.faults tree.old) (T.faults tree.new) (T.log tree.old) (T.log tree.new) }
-    ensures found { OnOk result (Sees (Visits next.path next.folder found.old.items found.new.items (turns waiting.old.items) (turns waiting.new.items)) (T.log tree.old) (T.log tree.new)) }
+    ensures found { OnOk result (Sees found.old.items found.new.items (Visits next.path next.folder found.old.items found.new.items (turns waiting.old.items) (turns waiting.new.items)) (T.log tree.old) (T.log tree.new)) }
 {
     let Waiting { path, folder } = next;
     if folder {
@@ -208,9 +210,13 @@ fn visit<T: Tree>(
 }
 
 /// Lets the entries of the root wait.
-fn begin<T: Tree>(tree: &mut T, alloc: Global, waiting: &mut Vec<Waiting>) -> Result<(), ScanFault>
-    ensures log { Looks (T.log tree.old) (T.log tree.new) }
-    ensures cause { HasScanCause (T.faults tree.old) (T.faults tree.new) result }
+fn begin<T: Tree>(
+    tree: &mut T,
+    alloc: Global,
+    waiting: &mut Vec<Waiting>,
+) -> Result<(), FolderFault>
+    ensures log { Looks 1 (T.log tree.old) (T.log tree.new) }
+    ensures cause { HasFolderCause (T.faults tree.old) (T.faults tree.new) result }
     ensures undisturbed { Undisturbed (T.undisturbed tree.old) (T.undisturbed tree.new) (T.faults tree.old) (T.faults tree.new) (T.log tree.old) (T.log tree.new) }
     ensures found { OnOk result (Begins (turns waiting.old.items) (turns waiting.new.items) (T.log tree.old) (T.log tree.new)) }
 {
@@ -226,9 +232,9 @@ fn begin<T: Tree>(tree: &mut T, alloc: Global, waiting: &mut Vec<Waiting>) -> Re
 }
 
 /// All entries in order of path: a folder is listed, and a file read, when its turn comes. What is gone then is left out.
-pub fn scan<T: Tree>(tree: &mut T, alloc: Global) -> Result<List<(Path, Node)>, ScanFault>
-    ensures log { Looks (T.log tree.old) (T.log tree.new) }
-    ensures cause { HasScanCause (T.faults tree.old) (T.faults tree.new) result }
+pub fn scan<T: Tree>(tree: &mut T, alloc: Global) -> Result<List<(Path, Node)>, FolderFault>
+    ensures log { Looks 1 (T.log tree.old) (T.log tree.new) }
+    ensures cause { HasFolderCause (T.faults tree.old) (T.faults tree.new) result }
     ensures undisturbed { Undisturbed (T.undisturbed tree.old) (T.undisturbed tree.new) (T.faults tree.old) (T.faults tree.new) (T.log tree.old) (T.log tree.new) }
     ensures found { IfOk result (λ found. Finds (T.log tree.old) (T.log tree.new) found) }
 {
@@ -241,5 +247,5 @@ pub fn scan<T: Tree>(tree: &mut T, alloc: Global) -> Result<List<(Path, Node)>, 
             None => return Ok(List::from_vec(found)),
         }
     }
-    Err(ScanFault::Memory)
+    Err(FolderFault::Memory)
 }

@@ -6,7 +6,7 @@ use gd_item::{Item, ItemId, Kind, Page, PageLink, Reply, Request, Tag, digest_of
 use gd_names::{Bytes, List, NoMemory, Path, Text};
 use od_keeper::{Agreed, Keeper, MemoryKeeper};
 use od_transfer::{AskFault, Carrier, Job, Outcome, Remote, carry_each};
-use od_tree::{MemoryTree, Tree};
+use od_tree::{MemoryTree, Tree, TreeCall, TreeFault, UserEdit};
 use std::alloc::Global;
 use std::test::Fail;
 
@@ -266,13 +266,31 @@ fn synced(rt: HostRuntime) -> Result<(), Fail> {
     Ok(())
 }
 
+/// A file that the user removes right after it was placed is not fetched again.
+#[test]
+fn removed_once_placed(rt: HostRuntime) -> Result<(), Fail> {
+    let alloc = rt.alloc();
+    let mut drive = OneFile { answers: 0 };
+    let mut edits = List::new(alloc);
+    edits.push((TreeCall::List, 2, UserEdit::Remove(at_root(alloc, "a")?)))?;
+    let mut tree = MemoryTree::new(alloc, edits, List::new(alloc));
+    let mut keeper = MemoryKeeper::new(alloc, List::new(alloc));
+    let end = sync_now(alloc, &mut drive, &mut tree, &mut keeper);
+    assert_eq!(rt; end, SyncEnd::Unsettled);
+    assert_eq!(rt;
+        tree.read(alloc, &at_root(alloc, "a")?),
+        Err(TreeFault::Missing)
+    );
+    Ok(())
+}
+
 /// Where the folder cannot be reached, a sync says so.
 #[test]
 fn failed(rt: HostRuntime) -> Result<(), Fail> {
     let alloc = rt.alloc();
     let mut drive = OneFile { answers: 0 };
     let mut failing = List::new(alloc);
-    failing.push((od_tree::TreeCall::Place, 1))?;
+    failing.push((TreeCall::Place, 1))?;
     let mut tree = MemoryTree::new(alloc, List::new(alloc), failing);
     let mut keeper = MemoryKeeper::new(alloc, List::new(alloc));
     let end = sync_now(alloc, &mut drive, &mut tree, &mut keeper);

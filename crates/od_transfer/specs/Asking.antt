@@ -1,9 +1,11 @@
 -- What a request does to the log of the drive that it is sent to, where that is told: others come before it, and then the
 -- drive answers it, or it is lost on its way there or back.
-use Rattle.std.specs.Prelude.{◌≡◌, ◌⊎◌, ℕ, ◌+◌, ◌-◌, ◌^◌, ◌≤◌, min, Bool, true, false, nat_eq, cond, List, [], ◌∷◌, ◌++◌, Option, Some, Result, IfOk, OnOk, OnErr, IsErrOf}
+use Rattle.std.specs.Prelude.{◌≡◌, ◌⊎◌, ℕ, ◌+◌, ◌-◌, ◌^◌, ◌≤◌, min, Bool, true, false, ◌&&◌, ◌||◌, nat_eq, cond, List, [], ◌∷◌, ◌++◌, Option, Some, Result, IfOk, OnOk, OnErr, IsErrOf}
 use Rattle.std.specs.List.{AllByRecursion}
 use Rattle.gd_names.specs.Streams.{Rose}
 use Rattle.gd_item.specs.Answers.{answer_of, unserved}
+use Rattle.gd_item.specs.declared.fault.ErrorCode.{ErrorCode}
+use Rattle.gd_item.specs.declared.fault.ErrorCode.TheVariants as code
 use Rattle.gd_item.specs.declared.reply.PageLink.{PageLink}
 use Rattle.gd_item.specs.declared.reply.PageLink.TheVariants as link
 use Rattle.gd_item.specs.declared.reply.Reply.{Reply}
@@ -78,22 +80,35 @@ abbrev pub is_last_link : PageLink → Bool
 is_last_link (link.Next token) = false
 is_last_link (link.Delta token) = true
 
+-- whether a refusal with this code has this status
+abbrev pub has_status : ErrorCode → ℕ → Bool
+has_status code.InvalidRequest status = nat_eq status 400 || nat_eq status 413
+has_status code.InvalidRange status = nat_eq status 400 || nat_eq status 416
+has_status code.ItemNotFound status = nat_eq status 404
+has_status code.NotSupported status = nat_eq status 405 || nat_eq status 501
+has_status code.NameAlreadyExists status = nat_eq status 409
+has_status code.ResyncChangesApplyDifferences status = nat_eq status 410
+has_status code.ResyncChangesUploadDifferences status = nat_eq status 410
+has_status code.ResourceModified status = nat_eq status 412
+has_status code.GeneralException status = nat_eq status 503
+has_status code.QuotaLimitReached status = nat_eq status 507
+
 -- whether a reply may come to a Delta: a last page, or that the drive lacks memory
 abbrev pub may_answer_delta : Reply → Bool
 may_answer_delta (reply.Page page) = is_last_link page.link
-may_answer_delta (reply.Refused status code) = nat_eq status 503
+may_answer_delta (reply.Refused status code) = nat_eq status 503 && has_status code status
 may_answer_delta reply = false
 
 -- whether a reply may come to a Content: where the bytes are to be had, or a refusal
 abbrev pub may_answer_content : Reply → Bool
 may_answer_content (reply.Found id version) = true
-may_answer_content (reply.Refused status code) = true
+may_answer_content (reply.Refused status code) = has_status code status
 may_answer_content reply = false
 
 -- whether a reply may come to a Download: the bytes, or a refusal
 abbrev pub may_answer_download : Reply → Bool
 may_answer_download (reply.Content bytes) = true
-may_answer_download (reply.Refused status code) = true
+may_answer_download (reply.Refused status code) = has_status code status
 may_answer_download reply = false
 
 -- whether a reply may come to a request, of which one of another kind than these three may have any

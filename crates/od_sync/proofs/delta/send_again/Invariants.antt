@@ -7,7 +7,7 @@ use Rattle.od_sync.proofs.delta.send_again.Given as goal
 -- the sends so far had no page
 abbrev pub invariant-loop-sent : goal.invariant-loop-sent
 invariant-loop-sent g l = record {
-  log : (old : List Step) → g.R.Remote.log l.fn.remote ≡ Some old → Spent l.request l.replies old (g.R.Remote.log l.remote);
+  log : (old : List Step) → g.R.Remote.log l.fn.remote ≡ Some old → Spent l.request l._sent l.replies old (g.R.Remote.log l.remote);
   counts : HasNoPage l._sent l.replies (g.R.Remote.faults l.fn.remote) (g.R.Remote.faults l.remote) (g.R.Remote.answers l.fn.remote) (g.R.Remote.answers l.remote) (g.R.Remote.in_row l.fn.remote) (g.R.Remote.in_row l.remote);
   faults_later : g.R.Remote.faults l.fn.remote ≤ g.R.Remote.faults l.remote;
   answers_later : g.R.Remote.answers l.fn.remote ≤ g.R.Remote.answers l.remote;

@@ -1,12 +1,12 @@
 use Rattle.std.proofs.Common.{arith}
 use Rattle.od_sync.proofs.SyncAlone.{tree-then}
-use Rattle.od_sync.proofs.Made.{makes-then}
-use Rattle.od_sync.proofs.Placed.{makes-more}
+use Rattle.od_sync.proofs.Placed.{folder-then, makes-more}
 use Rattle.od_sync.proofs.doing.make_folders.Goals as goal
 
 pub returns-in_err-make_next-clause-log : goal.returns-in_err-make_next-clause-log
 returns-in_err-make_next-clause-log g c =
-    makes-then (g.T.Tree.log c.args.tree.now) (g.T.Tree.log c.loop-folder.tree) (g.T.Tree.log c.make_next.new.tree) c.loop-folder.invariant.log c.make_next.ensures.log
+    folder-then c.args.folders.now c.loop-folder.folder-index c.folder-item.result (g.T.Tree.log c.args.tree.now) (g.T.Tree.log c.loop-folder.tree) (g.T.Tree.log c.make_next.new.tree) c.loop-folder-test.true
+    c.folder-item.is c.loop-folder.invariant.log c.make_next.ensures.log
 
 pub returns-in_err-make_next-clause-undisturbed : goal.returns-in_err-make_next-clause-undisturbed
 returns-in_err-make_next-clause-undisturbed g c =
@@ -16,7 +16,9 @@ returns-in_err-make_next-clause-undisturbed g c =
 
 pub loop-folder-preserved : goal.loop-folder-preserved
 loop-folder-preserved g c = record {
-  log = makes-then (g.T.Tree.log c.args.tree.now) (g.T.Tree.log c.loop-folder.tree) (g.T.Tree.log c.make_next.new.tree) c.loop-folder.invariant.log c.make_next.ensures.log;
+  log =
+      folder-then c.args.folders.now c.loop-folder.folder-index c.folder-item.result (g.T.Tree.log c.args.tree.now) (g.T.Tree.log c.loop-folder.tree) (g.T.Tree.log c.make_next.new.tree) c.loop-folder-test.true
+      c.folder-item.is c.loop-folder.invariant.log c.make_next.ensures.log;
   later = omega (arith, c.loop-folder.invariant.later, c.make_next.ensures.cause.later);
   alone =
       tree-then (g.T.Tree.undisturbed c.args.tree.now) (g.T.Tree.undisturbed c.loop-folder.tree) (g.T.Tree.undisturbed c.make_next.new.tree)

@@ -3,7 +3,8 @@ use Rattle.std.specs.List.{All}
 use Rattle.od_sync.specs.Doing.{MakesAll, is_tried, most_bytes}
 use Rattle.od_sync.specs.declared.planning.Fetching.{Fetching}
 use Rattle.od_sync.proofs.Batched.{stops-none}
-use Rattle.od_sync.proofs.Done.{does-plan, goes-plan, tried-below, tried-light}
+use Rattle.od_sync.proofs.Done.{does-plan, goes-plan, makes-folders, makes-plan, tried-below, tried-light}
+use Rattle.od_sync.proofs.RowsPut.{puts-folders, puts-then}
 use Rattle.od_sync.proofs.SyncAlone.{tree-then}
 use Rattle.od_sync.proofs.fetching.do_plan.Goals as goal
 
@@ -17,6 +18,10 @@ returns-in_err-barred-clause-goes g c =
     (g.T.Tree.log c.args.tree.now) (g.T.Tree.log c.make_folders.new.tree) (g.T.Tree.log c.make_folders.new.tree)
     (g.K.Keeper.images c.args.keeper.now) (g.K.Keeper.images c.args.keeper.now)
     refl c.make_folders.ensures.log (stops-none c.args.image (filter (is_tried []) c.args.plan.fetches) (g.R.Remote.log c.args.remote.now) (g.T.Tree.log c.make_folders.new.tree) (g.K.Keeper.images c.args.keeper.now))
+
+pub returns-in_err-barred-clause-steps : goal.returns-in_err-barred-clause-steps
+returns-in_err-barred-clause-steps g c =
+    makes-folders c.args.plan.folders c.as_slice.result.now c.args.plan.fetches (g.T.Tree.log c.args.tree.now) (g.T.Tree.log c.make_folders.new.tree) c.as_slice.ensures c.make_folders.ensures.log
 
 pub fetch_all-requires-clause-below : goal.fetch_all-requires-clause-below
 fetch_all-requires-clause-below g c =
@@ -48,6 +53,16 @@ returns-in-Ok-clause-does g c =
     (subst (λ (folders : List (List (List ℕ))). MakesAll folders (g.T.Tree.log c.args.tree.now) (g.T.Tree.log c.make_folders.new.tree) c.in_ok-barred.barred) c.as_slice.ensures c.in_ok-barred.ensures.made)
     c.in-Ok.ensures.fetches
 
+pub returns-in-Ok-clause-steps : goal.returns-in-Ok-clause-steps
+returns-in-Ok-clause-steps g c =
+    makes-plan c.args.plan.folders c.as_slice.result.now c.args.plan.fetches c.as_slice-3.result.now c.in_ok-barred.barred (g.T.Tree.log c.args.tree.now) (g.T.Tree.log c.make_folders.new.tree) (g.T.Tree.log c.fetch_all.new.tree) c.as_slice.ensures
+    (tried-is c.tried_fetches-tried.result c.as_slice-3.result.now c.args.plan.fetches c.as_slice-2.result.now c.in_ok-barred.barred c.tried_fetches-tried.ensures c.as_slice-3.ensures c.as_slice-2.ensures) c.make_folders.ensures.log c.fetch_all.ensures.steps
+
+pub returns-in-Ok-clause-rows : goal.returns-in-Ok-clause-rows
+returns-in-Ok-clause-rows g c =
+    puts-then c.args.image c.args.image c.in-Ok.next (g.T.Tree.log c.args.tree.now) (g.T.Tree.log c.make_folders.new.tree) (g.T.Tree.log c.fetch_all.new.tree)
+    (puts-folders c.args.image (g.T.Tree.log c.args.tree.now) (g.T.Tree.log c.make_folders.new.tree) c.make_folders.ensures.log) c.in-Ok.ensures.rows
+
 pub returns-in-Ok-clause-tree_alone : goal.returns-in-Ok-clause-tree_alone
 returns-in-Ok-clause-tree_alone g c =
     tree-then (g.T.Tree.undisturbed c.args.tree.now) (g.T.Tree.undisturbed c.make_folders.new.tree) (g.T.Tree.undisturbed c.fetch_all.new.tree)
@@ -61,6 +76,11 @@ returns-clause-goes g c =
     (g.T.Tree.log c.args.tree.now) (g.T.Tree.log c.make_folders.new.tree) (g.T.Tree.log c.fetch_all.new.tree)
     (g.K.Keeper.images c.args.keeper.now) (g.K.Keeper.images c.fetch_all.new.keeper)
     (tried-is c.tried_fetches-tried.result c.as_slice-3.result.now c.args.plan.fetches c.as_slice-2.result.now c.in_ok-barred.barred c.tried_fetches-tried.ensures c.as_slice-3.ensures c.as_slice-2.ensures) c.make_folders.ensures.log c.fetch_all.ensures.stops
+
+pub returns-clause-steps : goal.returns-clause-steps
+returns-clause-steps g c =
+    makes-plan c.args.plan.folders c.as_slice.result.now c.args.plan.fetches c.as_slice-3.result.now c.in_ok-barred.barred (g.T.Tree.log c.args.tree.now) (g.T.Tree.log c.make_folders.new.tree) (g.T.Tree.log c.fetch_all.new.tree) c.as_slice.ensures
+    (tried-is c.tried_fetches-tried.result c.as_slice-3.result.now c.args.plan.fetches c.as_slice-2.result.now c.in_ok-barred.barred c.tried_fetches-tried.ensures c.as_slice-3.ensures c.as_slice-2.ensures) c.make_folders.ensures.log c.fetch_all.ensures.steps
 
 pub returns-clause-tree_alone : goal.returns-clause-tree_alone
 returns-clause-tree_alone g c =

@@ -5,8 +5,10 @@ use Rattle.std.proofs.lemmas.List.Elements.{All-drop}
 use Rattle.od_transfer.specs.Fits.{IsTransfer}
 use Rattle.od_sync.specs.Doing.{most_bytes}
 use Rattle.od_sync.specs.declared.planning.Fetching.{Fetching}
-use Rattle.od_sync.proofs.Batched.{so-far-first, so-far-next, so-far-stops, stops-none}
+use Rattle.od_sync.proofs.Batched.{makes-batch, so-far-first, so-far-next, so-far-stops, stops-none}
 use Rattle.od_sync.proofs.KeptImages.{grows-none, grows-then, kept-none, kept-then, leaves-none, leaves-then, no-faults-then}
+use Rattle.od_sync.proofs.Made.{makes-none}
+use Rattle.od_sync.proofs.RowsPut.{puts-none, puts-then}
 use Rattle.od_sync.proofs.SyncAlone.{keeper-same, keeper-then, tree-same, tree-then}
 use Rattle.od_sync.proofs.Undisturbing.{still-undisturbed, undisturbed-then}
 use Rattle.od_sync.proofs.fetching.fetch_all.Goals as goal
@@ -19,6 +21,8 @@ loop-left-init g c = record {
   below = c.requires.below;
   light = c.requires.light;
   fetches = so-far-first c.args.image c.args.fetches.now (g.R.Remote.faults c.args.remote.now) (g.R.Remote.log c.args.remote.now) (g.T.Tree.log c.args.tree.now) (g.K.Keeper.images c.args.keeper.now);
+  steps = makes-none (g.T.Tree.log c.args.tree.now);
+  rows = puts-none c.args.image (g.T.Tree.log c.args.tree.now);
   requests = grows-none IsTransfer (g.R.Remote.log c.args.remote.now);
   tokens = kept-none c.args.image (g.K.Keeper.images c.args.keeper.now);
   last = leaves-none c.args.image (g.K.Keeper.images c.args.keeper.now);
@@ -31,6 +35,13 @@ loop-left-init g c = record {
   tree_alone = tree-same (g.T.Tree.undisturbed c.args.tree.now) (g.T.Tree.faults c.args.tree.now) (g.T.Tree.log c.args.tree.now);
   keeper_alone = keeper-same (g.K.Keeper.undisturbed c.args.keeper.now) (g.K.Keeper.faults c.args.keeper.now);
 }
+
+pub returns-in_err-last-clause-steps : goal.returns-in_err-last-clause-steps
+returns-in_err-last-clause-steps g c =
+    makes-batch c.args.fetches.now c.loop-left.invariant.fetches.done c.loop-left.left.now c.split_at.result.0.now c.split_at.result.1.now
+    (g.T.Tree.log c.args.tree.now) (g.T.Tree.log c.loop-left.tree) (g.T.Tree.log c.fetch_batch.new.tree) c.loop-left.invariant.fetches.whole_is
+    (parts c.loop-left.left.now c.split_at.result.0.now c.split_at.result.1.now c.batch_length.result c.split_at.ensures.front c.split_at.ensures.back)
+    c.loop-left.invariant.steps c.fetch_batch.ensures.steps
 
 pub returns-in_err-last-clause-stops : goal.returns-in_err-last-clause-stops
 returns-in_err-last-clause-stops g c =
@@ -73,6 +84,12 @@ loop-left-preserved g c = record {
       (g.K.Keeper.images c.args.keeper.now) (g.K.Keeper.images c.loop-left.keeper) (g.K.Keeper.images c.fetch_batch.new.keeper)
       (parts c.loop-left.left.now c.split_at.result.0.now c.split_at.result.1.now c.batch_length.result c.split_at.ensures.front c.split_at.ensures.back)
       c.loop-left.invariant.faults_later c.fetch_batch.ensures.cause.link_later c.loop-left.invariant.fetches c.in_ok-last.ensures.fetches;
+  steps =
+      makes-batch c.args.fetches.now c.loop-left.invariant.fetches.done c.loop-left.left.now c.split_at.result.0.now c.split_at.result.1.now
+      (g.T.Tree.log c.args.tree.now) (g.T.Tree.log c.loop-left.tree) (g.T.Tree.log c.fetch_batch.new.tree) c.loop-left.invariant.fetches.whole_is
+      (parts c.loop-left.left.now c.split_at.result.0.now c.split_at.result.1.now c.batch_length.result c.split_at.ensures.front c.split_at.ensures.back)
+      c.loop-left.invariant.steps c.fetch_batch.ensures.steps;
+  rows = puts-then c.args.image c.loop-left.last c.in_ok-last.last (g.T.Tree.log c.args.tree.now) (g.T.Tree.log c.loop-left.tree) (g.T.Tree.log c.fetch_batch.new.tree) c.loop-left.invariant.rows c.in_ok-last.ensures.rows;
   requests = grows-then IsTransfer (g.R.Remote.log c.args.remote.now) (g.R.Remote.log c.loop-left.remote) (g.R.Remote.log c.fetch_batch.new.remote) c.loop-left.invariant.requests c.fetch_batch.ensures.requests;
   tokens = kept-then c.args.image c.loop-left.last (g.K.Keeper.images c.args.keeper.now) (g.K.Keeper.images c.loop-left.keeper) (g.K.Keeper.images c.fetch_batch.new.keeper) c.loop-left.invariant.tokens c.loop-left.invariant.last c.fetch_batch.ensures.tokens;
   last = leaves-then c.args.image c.loop-left.last c.in_ok-last.last (g.K.Keeper.images c.args.keeper.now) (g.K.Keeper.images c.loop-left.keeper) (g.K.Keeper.images c.fetch_batch.new.keeper) c.loop-left.invariant.last c.in_ok-last.ensures.last;

@@ -5,7 +5,7 @@ use Rattle.od_transfer.specs.Asking.{Grows}
 use Rattle.od_transfer.specs.Fits.{IsTransfer}
 use Rattle.od_transfer.specs.Undisturbed as remote
 use Rattle.od_tree.specs.Undisturbed as tree
-use Rattle.od_sync.specs.Doing.{most_bytes}
+use Rattle.od_sync.specs.Doing.{IsFetchOf, Makes, NoFolder, PutsRows, most_bytes}
 use Rattle.od_sync.specs.Serving.{KeepsToken, Leaves}
 use Rattle.od_sync.specs.declared.planning.Fetching.{Fetching}
 use Rattle.od_sync.proofs.Batched.{FetchesSoFar}
@@ -19,6 +19,8 @@ invariant-loop-left g l = record {
   fetches :
       FetchesSoFar l.fn.image l.fetches l.left l.last (g.R.Remote.faults l.fn.remote) (g.R.Remote.faults l.remote) (g.R.Remote.log l.fn.remote) (g.R.Remote.log l.remote)
       (g.T.Tree.log l.fn.tree) (g.T.Tree.log l.tree) (g.K.Keeper.images l.fn.keeper) (g.K.Keeper.images l.keeper);
+  steps : Makes NoFolder (IsFetchOf l.fetches) (g.T.Tree.log l.fn.tree) (g.T.Tree.log l.tree);
+  rows : PutsRows l.fn.image l.last (g.T.Tree.log l.fn.tree) (g.T.Tree.log l.tree);
   requests : Grows IsTransfer (g.R.Remote.log l.fn.remote) (g.R.Remote.log l.remote);
   tokens : KeepsToken l.fn.image (g.K.Keeper.images l.fn.keeper) (g.K.Keeper.images l.keeper);
   last : Leaves l.fn.image l.last (g.K.Keeper.images l.fn.keeper) (g.K.Keeper.images l.keeper);

@@ -1,5 +1,6 @@
 use Rattle.std.proofs.Common.{[]}
 use Rattle.od_sync.proofs.Batched.{fetched-batch, stops-at}
+use Rattle.od_sync.proofs.RowsPut.{puts-rows}
 use Rattle.od_sync.proofs.fetching.fetch_batch.Goals as goal
 
 pub returns-in_err-rows-clause-stops : goal.returns-in_err-rows-clause-stops
@@ -17,3 +18,7 @@ returns-clause-fetches g c =
     fetched-batch c.args.image c.args.batch.now c.in_ok-rows.rows c.in_ok-next.next (g.R.Remote.faults c.args.remote.now) (g.R.Remote.faults c.fetch_files.new.remote)
     (g.R.Remote.log c.args.remote.now) (g.R.Remote.log c.fetch_files.new.remote) (g.T.Tree.log c.args.tree.now) (g.T.Tree.log c.fetch_files.new.tree) (g.K.Keeper.images c.args.keeper.now) (g.K.Keeper.images c.commit_rows.new.keeper)
     c.in_ok-rows.ensures.fetches c.in_ok-rows.ensures.accepted c.in_ok-next.ensures.commits
+
+pub returns-clause-rows : goal.returns-clause-rows
+returns-clause-rows g c =
+    puts-rows c.args.image c.in_ok-rows.rows c.in_ok-next.next (g.T.Tree.log c.args.tree.now) (g.T.Tree.log c.fetch_files.new.tree) c.in_ok-rows.ensures.rows c.in_ok-next.ensures.rows

@@ -1,4 +1,6 @@
+use Rattle.std.proofs.Common.{arith}
 use Rattle.od_sync.proofs.Going.{agreed-token, goes-met, goes-scanned, meets, stays}
+use Rattle.od_sync.proofs.Looks.{looks-none, looks-weaker}
 use Rattle.od_sync.proofs.ServedTokens.{leaves-agreed, serves-agreed}
 use Rattle.od_sync.proofs.looking.look.Goals as goal
 
@@ -30,6 +32,9 @@ returns-clause-meets g c =
     meets c.args.image c.in_ok-received.received c.in_ok-local.local c.in_ok-sides.sides (g.R.Remote.log c.args.remote.now) (g.R.Remote.log c.receive.new.remote) (g.T.Tree.log c.args.tree.now) (g.T.Tree.log c.scan.new.tree)
     (g.K.Keeper.images c.args.keeper.now) (g.K.Keeper.images c.receive.new.keeper) (g.K.Keeper.images c.commit_agreement.new.keeper)
     c.in_ok-received.ensures.received c.in_ok-local.ensures.found c.in_ok-sides.ensures.sides c.in_ok-sides.ensures.images
+
+pub returns-in_err-received-clause-looks : goal.returns-in_err-received-clause-looks
+returns-in_err-received-clause-looks g c = looks-weaker 0 1 (g.T.Tree.log c.args.tree.now) (g.T.Tree.log c.args.tree.now) (omega arith) (looks-none (g.T.Tree.log c.args.tree.now))
 
 pub returns-clause-serves : goal.returns-clause-serves
 returns-clause-serves g c =

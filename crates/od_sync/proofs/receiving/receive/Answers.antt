@@ -6,7 +6,7 @@ use Rattle.od_sync.proofs.receiving.receive.Goals as goal
 pub returns-in_err-view-clause-goes : goal.returns-in_err-view-clause-goes
 returns-in_err-view-clause-goes g c = λ local.
     goes-pull c.args.image.now (g.R.Remote.log c.args.remote.now) (g.R.Remote.log c.pull_over.new.remote) local (g.K.Keeper.images c.args.keeper.now) (g.K.Keeper.images c.args.keeper.now)
-    c.pull_over.ensures.grows (stays (g.K.Keeper.images c.args.keeper.now))
+    c.pull_over.ensures.asks (stays (g.K.Keeper.images c.args.keeper.now))
 
 pub returns-in_err-view-clause-bad : goal.returns-in_err-view-clause-bad
 returns-in_err-view-clause-bad g c = λ n is.
@@ -15,17 +15,17 @@ returns-in_err-view-clause-bad g c = λ n is.
 pub returns-in_err-view-clause-serves : goal.returns-in_err-view-clause-serves
 returns-in_err-view-clause-serves g c =
     serves-pull c.args.image.now (g.R.Remote.log c.args.remote.now) (g.R.Remote.log c.pull_over.new.remote) (g.K.Keeper.images c.args.keeper.now) (g.K.Keeper.images c.args.keeper.now)
-    c.pull_over.ensures.grows (stays (g.K.Keeper.images c.args.keeper.now))
+    c.pull_over.ensures.asks (stays (g.K.Keeper.images c.args.keeper.now))
 
 pub returns-in_err-received-clause-goes : goal.returns-in_err-received-clause-goes
 returns-in_err-received-clause-goes g c = λ local.
     goes-pull c.args.image.now (g.R.Remote.log c.args.remote.now) (g.R.Remote.log c.pull_over.new.remote) local (g.K.Keeper.images c.args.keeper.now) (g.K.Keeper.images c.commit_view.new.keeper)
-    c.pull_over.ensures.grows c.in_err-received.ensures.images.err
+    c.pull_over.ensures.asks c.in_err-received.ensures.images.err
 
 pub returns-in_err-received-clause-serves : goal.returns-in_err-received-clause-serves
 returns-in_err-received-clause-serves g c =
     serves-pull c.args.image.now (g.R.Remote.log c.args.remote.now) (g.R.Remote.log c.pull_over.new.remote) (g.K.Keeper.images c.args.keeper.now) (g.K.Keeper.images c.commit_view.new.keeper)
-    c.pull_over.ensures.grows c.in_err-received.ensures.images.err
+    c.pull_over.ensures.asks c.in_err-received.ensures.images.err
 
 pub returns-clause-goes : goal.returns-clause-goes
 returns-clause-goes g c = λ local.

@@ -12,17 +12,17 @@ returns-then-is_settled-clause-rounds g c =
 pub returns-in-Ok-act-clause-rounds : goal.returns-in-Ok-act-clause-rounds
 returns-in-Ok-act-clause-rounds g c =
     rounds-acted (g.R.Remote.faults c.args.remote.now) (g.R.Remote.faults c.look.new.remote) (g.R.Remote.faults c.act.new.remote) c.args.image c.in-Ok.sides c.in-Ok-act.next (g.R.Remote.log c.args.remote.now) (g.R.Remote.log c.look.new.remote) (g.R.Remote.log c.act.new.remote) (g.T.Tree.log c.args.tree.now) (g.T.Tree.log c.look.new.tree) (g.T.Tree.log c.act.new.tree)
-    (g.K.Keeper.images c.args.keeper.now) (g.K.Keeper.images c.look.new.keeper) (g.K.Keeper.images c.act.new.keeper) c.look.ensures.cause.link_later c.in-Ok.ensures.meets (sym c.is_settled.ensures ∙ c.if-is_settled.false) c.in-Ok-act.ensures.acts
+    (g.K.Keeper.images c.args.keeper.now) (g.K.Keeper.images c.look.new.keeper) (g.K.Keeper.images c.act.new.keeper) c.look.ensures.cause.link_later c.in-Ok.ensures.meets (sym c.is_settled.ensures ∙ c.if-is_settled.false) c.in-Ok-act.ensures.acts c.act.ensures.steps
 
 pub returns-in-Err-act-clause-rounds : goal.returns-in-Err-act-clause-rounds
 returns-in-Err-act-clause-rounds g c =
     rounds-act-stopped (g.R.Remote.faults c.args.remote.now) (g.R.Remote.faults c.act.new.remote) c.args.image c.in-Ok.sides c.in-Err-act.stop (g.R.Remote.log c.args.remote.now) (g.R.Remote.log c.look.new.remote) (g.R.Remote.log c.act.new.remote) (g.T.Tree.log c.args.tree.now) (g.T.Tree.log c.look.new.tree) (g.T.Tree.log c.act.new.tree)
-    (g.K.Keeper.images c.args.keeper.now) (g.K.Keeper.images c.look.new.keeper) (g.K.Keeper.images c.act.new.keeper) c.in-Ok.ensures.meets c.in-Err-act.ensures.stops c.act.ensures.goes
+    (g.K.Keeper.images c.args.keeper.now) (g.K.Keeper.images c.look.new.keeper) (g.K.Keeper.images c.act.new.keeper) c.in-Ok.ensures.meets c.in-Err-act.ensures.stops c.act.ensures.goes c.act.ensures.requests c.act.ensures.steps
 
 pub returns-in-Err-clause-rounds : goal.returns-in-Err-clause-rounds
 returns-in-Err-clause-rounds g c =
     rounds-stopped (g.R.Remote.faults c.args.remote.now) (g.R.Remote.faults c.look.new.remote) c.args.image c.in-Err.stop (g.R.Remote.log c.args.remote.now) (g.R.Remote.log c.look.new.remote) (g.T.Tree.log c.args.tree.now) (g.T.Tree.log c.look.new.tree) (g.K.Keeper.images c.args.keeper.now) (g.K.Keeper.images c.look.new.keeper)
-    c.look.ensures.goes c.in-Err.ensures.bad c.in-Err.ensures.unserved
+    c.look.ensures.goes c.look.ensures.looks c.look.ensures.asks c.in-Err.ensures.bad c.in-Err.ensures.bad_stays c.in-Err.ensures.unserved
 
 pub returns-in-Ok-act-clause-serves : goal.returns-in-Ok-act-clause-serves
 returns-in-Ok-act-clause-serves g c =

@@ -1,4 +1,4 @@
-use Rattle.std.proofs.Common.{◌∙◌, Ok, Err}
+use Rattle.std.proofs.Common.{◌∙◌, Ok, Err, arith}
 use Rattle.od_sync.proofs.Running.{runs-more, runs-settled, runs-stopped}
 use Rattle.od_sync.proofs.ServedTokens.{serves-then, starts-next}
 use Rattle.od_sync.proofs.SyncAlone.{alone-then}
@@ -6,11 +6,11 @@ use Rattle.od_sync.proofs.rounds.three_rounds.Goals as goal
 
 pub returns-in-Ok-None-clause-runs : goal.returns-in-Ok-None-clause-runs
 returns-in-Ok-None-clause-runs g c =
-    runs-settled 3 (g.R.Remote.faults c.args.remote.now) (g.R.Remote.faults c.round.new.remote) c.args.image (g.R.Remote.log c.args.remote.now) (g.R.Remote.log c.round.new.remote) (g.T.Tree.log c.args.tree.now) (g.T.Tree.log c.round.new.tree) (g.K.Keeper.images c.args.keeper.now) (g.K.Keeper.images c.round.new.keeper) (rw c.in-Ok-None.field-0-is at c.in-Ok-None.ensures.rounds)
+    runs-settled 3 (g.R.Remote.faults c.args.remote.now) (g.R.Remote.faults c.round.new.remote) c.args.image (g.R.Remote.log c.args.remote.now) (g.R.Remote.log c.round.new.remote) (g.T.Tree.log c.args.tree.now) (g.T.Tree.log c.round.new.tree) (g.K.Keeper.images c.args.keeper.now) (g.K.Keeper.images c.round.new.keeper) (omega arith) (rw c.in-Ok-None.field-0-is at c.in-Ok-None.ensures.rounds)
 
 pub returns-in-Err-clause-runs : goal.returns-in-Err-clause-runs
 returns-in-Err-clause-runs g c =
-    runs-stopped 3 (g.R.Remote.faults c.args.remote.now) (g.R.Remote.faults c.round.new.remote) c.args.image c.in-Err.stop (g.R.Remote.log c.args.remote.now) (g.R.Remote.log c.round.new.remote) (g.T.Tree.log c.args.tree.now) (g.T.Tree.log c.round.new.tree) (g.K.Keeper.images c.args.keeper.now) (g.K.Keeper.images c.round.new.keeper) c.in-Err.ensures.rounds
+    runs-stopped 3 (g.R.Remote.faults c.args.remote.now) (g.R.Remote.faults c.round.new.remote) c.args.image c.in-Err.stop (g.R.Remote.log c.args.remote.now) (g.R.Remote.log c.round.new.remote) (g.T.Tree.log c.args.tree.now) (g.T.Tree.log c.round.new.tree) (g.K.Keeper.images c.args.keeper.now) (g.K.Keeper.images c.round.new.keeper) (omega arith) c.in-Err.ensures.rounds
 
 pub returns-in-Ok-clause-runs : goal.returns-in-Ok-clause-runs
 returns-in-Ok-clause-runs g c =

@@ -9,7 +9,7 @@ use Rattle.od_sync.proofs.scanning.scan.Goals as goal
 
 pub returns-in_err-visit-in-Some-clause-log : goal.returns-in_err-visit-in-Some-clause-log
 returns-in_err-visit-in-Some-clause-log g c =
-    looks-then (g.T.Tree.log c.args.tree.now) (g.T.Tree.log c.loop-turn.tree) (g.T.Tree.log c.visit.new.tree) c.loop-turn.invariant.log c.visit.ensures.log
+    looks-then 1 0 (g.T.Tree.log c.args.tree.now) (g.T.Tree.log c.loop-turn.tree) (g.T.Tree.log c.visit.new.tree) c.loop-turn.invariant.log c.visit.ensures.log
 
 pub returns-in_err-visit-in-Some-clause-undisturbed : goal.returns-in_err-visit-in-Some-clause-undisturbed
 returns-in_err-visit-in-Some-clause-undisturbed g c =
@@ -21,7 +21,7 @@ pub loop-turn-preserved : goal.loop-turn-preserved
 loop-turn-preserved g c =
     let tree = g.T.Tree in
     record {
-      log = looks-then (tree.log c.args.tree.now) (tree.log c.loop-turn.tree) (tree.log c.visit.new.tree) c.loop-turn.invariant.log c.visit.ensures.log;
+      log = looks-then 1 0 (tree.log c.args.tree.now) (tree.log c.loop-turn.tree) (tree.log c.visit.new.tree) c.loop-turn.invariant.log c.visit.ensures.log;
       later = omega (arith, c.loop-turn.invariant.later, c.visit.ensures.cause.later);
       undisturbed = undisturbed_then (tree.undisturbed c.args.tree.now) (tree.undisturbed c.loop-turn.tree) (tree.undisturbed c.visit.new.tree) (tree.faults c.args.tree.now) (tree.faults c.loop-turn.tree) (tree.faults c.visit.new.tree)
           (tree.log c.args.tree.now) (tree.log c.loop-turn.tree) (tree.log c.visit.new.tree) c.loop-turn.invariant.undisturbed c.visit.ensures.undisturbed;
