@@ -29,7 +29,7 @@ use Rattle.od_sync.specs.Scans.{IsLook, is_root_listing}
 use Rattle.od_sync.specs.Deltas.{IsSpent, is_own_delta}
 use Rattle.od_sync.specs.Doing.{IsMaking}
 use Rattle.od_sync.specs.Findings.{found_by}
-use Rattle.od_sync.specs.Looks.{AllUnlike, IsUnlike, LastSame, Shown, asked_trees, scans}
+use Rattle.od_sync.specs.Looks.{AllUnlike, IsUnlike, LastSame, Entries, asked_trees, scans}
 use Rattle.od_sync.specs.Syncs.{AreSame, after_last, before_last, last_asked, since_listed}
 use Rattle.od_sync.specs.declared.scanning.Node.{Node}
 use Rattle.od_sync.proofs.OwnRequests.{own_requests_keep}
@@ -118,52 +118,52 @@ pub answered-keeps : (token : Option (List ℕ)) (log : List Step) → state_of 
 answered-keeps token log = own_requests_keep log (answered token) (refl, tt) (refl, tt)
 
 -- what was found is what the drive had exactly where both compare as the same
-found-same : (drive : List Step) (items : List Item) (found : Shown) (remote : List (List (List ℕ) × Item)) → map uncounted items ≡ map uncounted (records_of (held_by drive)) → remote ≡ paths_of items
+found-same : (drive : List Step) (items : List Item) (found : Entries) (remote : List (List (List ℕ) × Item)) → map uncounted items ≡ map uncounted (records_of (held_by drive)) → remote ≡ paths_of items
     → is_same found remote ≡ true → found ≡ scanned (tree_of (held_by drive))
 found-same drive items found remote mirrors remote_is same =
     found-as-drive drive items found mirrors (ap (λ (r : List (List (List ℕ) × Item)). is_same found r) (sym remote_is) ∙ same)
 
-found-unlike : (drive : List Step) (items : List Item) (found : Shown) (remote : List (List (List ℕ) × Item)) → map uncounted items ≡ map uncounted (records_of (held_by drive)) → remote ≡ paths_of items
+found-unlike : (drive : List Step) (items : List Item) (found : Entries) (remote : List (List (List ℕ) × Item)) → map uncounted items ≡ map uncounted (records_of (held_by drive)) → remote ≡ paths_of items
     → is_same found remote ≡ false → IsUnlike found (scanned (tree_of (held_by drive)))
 found-unlike drive items found remote mirrors remote_is unlike same =
     let shown : is_same found remote ≡ true =
-    ap (λ (f : Shown). is_same f remote) same ∙ ap (λ (r : List (List (List ℕ) × Item)). is_same (scanned (tree_of (held_by drive))) r) remote_is
+    ap (λ (f : Entries). is_same f remote) same ∙ ap (λ (r : List (List (List ℕ) × Item)). is_same (scanned (tree_of (held_by drive))) r) remote_is
     ∙ drive-as-found drive items mirrors in
     cc (shown, unlike)
 
 -- ---- one look: what its scan found, and what the drive had where it was asked
-pub look-same : (drive spent : List Step) (token : Option (List ℕ)) (local : List LocalStep) (edits : List UserEdit) (rest : List LocalStep) (items : List Item) (found : Shown) (remote : List (List (List ℕ) × Item))
+pub look-same : (drive spent : List Step) (token : Option (List ℕ)) (local : List LocalStep) (edits : List UserEdit) (rest : List LocalStep) (items : List Item) (found : Entries) (remote : List (List (List ℕ) × Item))
     → OwnAre (IsSpent (Delta token)) spent → list_any is_root_listing rest ≡ false → map uncounted items ≡ map uncounted (records_of (held_by (drive ++ spent))) → remote ≡ paths_of items
     → found ≡ found_by (edited local edits ++ Op (op.List []) ∷ []) rest → is_same found remote ≡ true → LastSame drive (spent ++ answered token) local (scan-steps edits rest)
 look-same drive spent token local edits rest items found remote such once mirrors remote_is found_is same = record {
   found = [];
   had = [];
   same = found;
-  scans_are = scans-scan local edits rest once ∙ ap (λ (f : Shown). f ∷ []) (sym found_is);
-  asked_are = asked-look drive spent token such ∙ ap (λ (f : Shown). f ∷ []) (sym (found-same (drive ++ spent) items found remote mirrors remote_is same));
+  scans_are = scans-scan local edits rest once ∙ ap (λ (f : Entries). f ∷ []) (sym found_is);
+  asked_are = asked-look drive spent token such ∙ ap (λ (f : Entries). f ∷ []) (sym (found-same (drive ++ spent) items found remote mirrors remote_is same));
   unlike = tt;
 }
 
-pub look-unlike : (drive spent : List Step) (token : Option (List ℕ)) (local : List LocalStep) (edits : List UserEdit) (rest : List LocalStep) (items : List Item) (found : Shown) (remote : List (List (List ℕ) × Item))
+pub look-unlike : (drive spent : List Step) (token : Option (List ℕ)) (local : List LocalStep) (edits : List UserEdit) (rest : List LocalStep) (items : List Item) (found : Entries) (remote : List (List (List ℕ) × Item))
     → OwnAre (IsSpent (Delta token)) spent → list_any is_root_listing rest ≡ false → map uncounted items ≡ map uncounted (records_of (held_by (drive ++ spent))) → remote ≡ paths_of items
     → found ≡ found_by (edited local edits ++ Op (op.List []) ∷ []) rest → is_same found remote ≡ false → AllUnlike 1 drive (spent ++ answered token) local (scan-steps edits rest)
 look-unlike drive spent token local edits rest items found remote such once mirrors remote_is found_is unlike =
-    let scans_are : scans local (scan-steps edits rest) ≡ found ∷ [] = scans-scan local edits rest once ∙ ap (λ (f : Shown). f ∷ []) (sym found_is) in
+    let scans_are : scans local (scan-steps edits rest) ≡ found ∷ [] = scans-scan local edits rest once ∙ ap (λ (f : Entries). f ∷ []) (sym found_is) in
     let differ : IsUnlike found (scanned (tree_of (held_by (drive ++ spent)))) = found-unlike (drive ++ spent) items found remote mirrors remote_is unlike in
     record {
-      looks_are = ap (λ (all : List Shown). length all) scans_are;
+      looks_are = ap (λ (all : List Entries). length all) scans_are;
       unlike =
-          subst (λ (all : List Shown). AllZip IsUnlike all (asked_trees drive (spent ++ answered token))) (sym scans_are)
-          (subst (λ (had : List Shown). AllZip IsUnlike (found ∷ []) had) (sym (asked-look drive spent token such)) (differ, tt));
+          subst (λ (all : List Entries). AllZip IsUnlike all (asked_trees drive (spent ++ answered token))) (sym scans_are)
+          (subst (λ (had : List Entries). AllZip IsUnlike (found ∷ []) had) (sym (asked-look drive spent token such)) (differ, tt));
     }
 
 -- what is done then is no look
 pub none-unlike : (drive more : List Step) (local part : List LocalStep) → OwnAre IsTransfer more → AllByRecursion IsMaking part → AllUnlike 0 drive more local part
 none-unlike drive more local part such makes = record {
-  looks_are = ap (λ (all : List Shown). length all) (scans-makes local part makes);
+  looks_are = ap (λ (all : List Entries). length all) (scans-makes local part makes);
   unlike =
-      subst (λ (all : List Shown). AllZip IsUnlike all (asked_trees drive more)) (sym (scans-makes local part makes))
-      (subst (λ (had : List Shown). AllZip IsUnlike [] had) (sym (asked-none drive more such)) tt);
+      subst (λ (all : List Entries). AllZip IsUnlike all (asked_trees drive more)) (sym (scans-makes local part makes))
+      (subst (λ (had : List Entries). AllZip IsUnlike [] had) (sym (asked-none drive more such)) tt);
 }
 
 -- ---- what a look says of the trees, of the logs right before it was answered and right before the root was listed

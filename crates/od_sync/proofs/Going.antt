@@ -4,6 +4,8 @@ use Rattle.std.proofs.lemmas.List.Elements.{All-nil, All-cons}
 use Rattle.std.specs.List.{All}
 use Rattle.gd_item.specs.declared.request.Request.TheVariants.{Delta}
 use Rattle.gd_item.specs.declared.step.Step.{Step}
+use Rattle.gd_item.specs.declared.step.Step.TheVariants.{Ask}
+use Rattle.gd_item.specs.declared.step.Who.TheVariants.{Own}
 use Rattle.od_keeper.proofs.Growing.{sound-stays}
 use Rattle.od_keeper.specs.Images.{applied}
 use Rattle.od_keeper.specs.Keeping.{Stay}
@@ -19,13 +21,14 @@ use Rattle.od_tree.specs.declared.step.LocalStep.{LocalStep}
 use Rattle.od_tree.specs.declared.step.LocalStep.TheVariants.{User, Op}
 use Rattle.od_tree.specs.declared.step.TreeOp.TheVariants as op
 use Rattle.od_sync.specs.Agreeing.{agreement}
+use Rattle.od_sync.specs.Chains.{IsChained}
 use Rattle.od_sync.specs.Comparing.{IsKindAccepted}
 use Rattle.od_sync.specs.Deltas.{AsksDelta}
 use Rattle.od_sync.specs.Doing.{AreAcceptedFetches}
 use Rattle.od_sync.specs.Planning.{planned_fetches}
 use Rattle.od_sync.specs.Receiving.{AreSides, Got, Keeps, Receives}
 use Rattle.od_sync.specs.Rounds.{AreKindsAccepted}
-use Rattle.od_sync.specs.Scans.{Finds, Found, Looked, Looks}
+use Rattle.od_sync.specs.Scans.{Finds, Found, GrownByLooks, GrowsByLooks}
 use Rattle.od_sync.specs.Syncing.{Goes, Meets, Met, Went}
 use Rattle.od_sync.specs.declared.looking.Sides.{Sides}
 use Rattle.od_sync.specs.declared.planning.Fetching.{Fetching}
@@ -64,7 +67,7 @@ one-sound : (image : Image) (drive spent last : List Step) → IsSound image (dr
 one-sound image drive spent last sound = subst (λ (log : List Step). IsSound image log) (append_assoc drive spent last) (sound-stays image (drive ++ spent) last sound)
 
 went-got : (listings : ℕ) (image : Image) (received : Received) (drive : List Step) (local : List LocalStep) (images : List Image) (after : Option (List Step)) (local_after : Option (List LocalStep)) (images_between images_after : Option (List Image))
-    → Got image received drive images after images_between → Stay images_between images_after → Looked listings local local_after → Went (IsSound image drive) drive local images after local_after images_after
+    → Got image received drive images after images_between → Stay images_between images_after → GrownByLooks listings local local_after → Went (IsSound image drive) drive local images after local_after images_after
 went-got listings image received drive local images after local_after images_between images_after g stay looked = record {
   more = g.spent ++ answered image.token;
   asked = asked-answered image.token g.spent g.such;
@@ -90,7 +93,7 @@ goes-got image received before after local images_before images_after receives =
 }
 
 pub goes-scanned : (image : Image) (received : Received) (before after : Option (List Step)) (local_before local_after : Option (List LocalStep)) (images_before images_between images_after : Option (List Image))
-    → Receives image received before after images_before images_between → Looks 1 local_before local_after → Stay images_between images_after
+    → Receives image received before after images_before images_between → GrowsByLooks 1 local_before local_after → Stay images_between images_after
     → Goes (IsSoundIn image) image before after local_before local_after images_before images_after
 goes-scanned image received before after local_before local_after images_before images_between images_after receives looks stay = record {
   told = λ drive steps images told local_told images_told last.
@@ -137,6 +140,7 @@ met image received found sides drive local images after local_after images_betwe
   spent = g.spent;
   such = g.such;
   sent = g.sent;
+  chained = subst (λ (token : Option (List ℕ)). IsChained image.token drive (g.spent ++ Ask Own (Delta image.token) true true ∷ []) token) (sym (agreed-token received found sides are)) g.chained;
   drive_grown = g.drive_grown;
   edits = f.edits;
   rest = f.rest;

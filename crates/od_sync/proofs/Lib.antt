@@ -52,6 +52,7 @@ pub mod RisingNumbers
 pub mod FileSizes
 pub mod PageTokens
 pub mod OwnRequests
+pub mod Chained
 pub mod PathsBelow
 pub mod FreshPlansPaths
 pub mod FreshPlansKeys

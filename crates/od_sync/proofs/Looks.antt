@@ -24,7 +24,7 @@ use Rattle.od_tree.specs.declared.step.LocalStep.TheVariants.{User, Op}
 use Rattle.od_tree.specs.declared.step.TreeOp.{TreeOp}
 use Rattle.od_tree.specs.Undisturbed.{IsOp, NoUser}
 use Rattle.od_sync.specs.Findings.{digest_at, found_by, found_file, found_folder, found_in, listing_at}
-use Rattle.od_sync.specs.Scans.{IsLook, Looked, Looks, is_root_listing}
+use Rattle.od_sync.specs.Scans.{IsLook, GrownByLooks, GrowsByLooks, is_root_listing}
 use Rattle.od_sync.specs.Visits.{Shows, Sees, Begins, Turn, Visits, step_of, pushed, pushed_if}
 use Rattle.od_sync.specs.declared.scanning.Node.{Node}
 use Rattle.od_sync.specs.declared.scanning.Node.TheVariants.{Folder, File}
@@ -65,7 +65,7 @@ listing-below [] named = absurd (omega arith)
 listing-below (name ∷ at) named = omega arith
 
 -- ---- the log grows by steps that look
-by-edits : (listings : ℕ) (old : List LocalStep) (edits : List UserEdit) (after : Option (List LocalStep)) → after ≡ Some (edited old edits) → Looked listings old after
+by-edits : (listings : ℕ) (old : List LocalStep) (edits : List UserEdit) (after : Option (List LocalStep)) → after ≡ Some (edited old edits) → GrownByLooks listings old after
 by-edits listings old edits after is = record {
   part = map (λ (edit : UserEdit). User edit) edits;
   looks = looks-edits edits;
@@ -73,7 +73,7 @@ by-edits listings old edits after is = record {
   grown = is;
 }
 
-abbrev by-op : (listings : ℕ) (call : TreeOp) (old : List LocalStep) (edits : List UserEdit) (after : Option (List LocalStep)) → IsLook (Op call) → IsListing listings call → after ≡ Some (with_op old edits call) → Looked listings old after
+abbrev by-op : (listings : ℕ) (call : TreeOp) (old : List LocalStep) (edits : List UserEdit) (after : Option (List LocalStep)) → IsLook (Op call) → IsListing listings call → after ≡ Some (with_op old edits call) → GrownByLooks listings old after
 by-op listings call old edits after look listing is =
     let user : List LocalStep = map (λ (edit : UserEdit). User edit) edits in
     record {
@@ -84,24 +84,24 @@ by-op listings call old edits after look listing is =
     }
 
 either-way : (listings : ℕ) (call : TreeOp) (old : List LocalStep) (edits : List UserEdit) (after : Option (List LocalStep)) → IsLook (Op call) → IsListing listings call
-    → (after ≡ Some (edited old edits)) ⊎ (after ≡ Some (with_op old edits call)) → Looked listings old after
+    → (after ≡ Some (edited old edits)) ⊎ (after ≡ Some (with_op old edits call)) → GrownByLooks listings old after
 either-way listings call old edits after look listing (inl without) = by-edits listings old edits after without
 either-way listings call old edits after look listing (inr done) = by-op listings call old edits after look listing done
 
 pub looks-ok : {T : Type 0} (listings : ℕ) (call : TreeOp) (Value : Local → T → Type 0) (before after : Option (List LocalStep)) (x : T) → IsLook (Op call) → IsListing listings call
-    → Calls call Value before after (Ok x) → Looks listings before after
+    → Calls call Value before after (Ok x) → GrowsByLooks listings before after
 looks-ok listings call Value before after x look listing calls =
     record { told = λ old told. let done = calls.ok old told in by-op listings call old done.0 after look listing done.1 }
 
 pub looks-err : {T : Type 0} (listings : ℕ) (call : TreeOp) (Value : Local → T → Type 0) (before after : Option (List LocalStep)) (fault : TreeFault) → IsLook (Op call) → IsListing listings call
-    → Calls call Value before after (Err fault) → Looks listings before after
+    → Calls call Value before after (Err fault) → GrowsByLooks listings before after
 looks-err listings call Value before after fault look listing calls =
     record { told = λ old told. let done = calls.err old told in either-way listings call old done.0 after look listing done.1 }
 
-pub looks-none : (log : Option (List LocalStep)) → Looks 0 log log
+pub looks-none : (log : Option (List LocalStep)) → GrowsByLooks 0 log log
 looks-none log = record { told = λ old told. record { part = []; looks = tt; listed = omega arith; grown = told ∙ ap (λ steps. Some steps) (sym (append-nil old)) } }
 
-pub looks-then : (a b : ℕ) (before middle after : Option (List LocalStep)) → Looks a before middle → Looks b middle after → Looks (a + b) before after
+pub looks-then : (a b : ℕ) (before middle after : Option (List LocalStep)) → GrowsByLooks a before middle → GrowsByLooks b middle after → GrowsByLooks (a + b) before after
 looks-then a b before middle after first second = record {
   told = λ old told.
       let one = first.told old told in
@@ -114,7 +114,7 @@ looks-then a b before middle after first second = record {
       };
 }
 
-pub looks-weaker : (a b : ℕ) (before after : Option (List LocalStep)) → a ≤ b → Looks a before after → Looks b before after
+pub looks-weaker : (a b : ℕ) (before after : Option (List LocalStep)) → a ≤ b → GrowsByLooks a before after → GrowsByLooks b before after
 looks-weaker a b before after less looks = record {
   told = λ old told.
       let one = looks.told old told in

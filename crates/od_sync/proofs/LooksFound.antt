@@ -14,7 +14,8 @@ use Rattle.gd_item.specs.declared.step.Who.TheVariants.{Own, Other}
 use Rattle.od_transfer.specs.Asking.{IsSuch, OwnAre}
 use Rattle.od_transfer.specs.Fits.{IsTransfer, is_transfer}
 use Rattle.od_tree.specs.Calls.{edited}
-use Rattle.od_tree.specs.Local.{local_of}
+use Rattle.od_tree.specs.Local.{local_of, local_tree}
+use Rattle.od_tree.specs.Undisturbed.{NoUser}
 use Rattle.od_tree.specs.declared.edit.UserEdit.{UserEdit}
 use Rattle.od_tree.specs.declared.local.Spot.{Spot}
 use Rattle.od_tree.specs.declared.step.LocalStep.{LocalStep}
@@ -24,7 +25,7 @@ use Rattle.od_sync.specs.Comparing.{scanned}
 use Rattle.od_sync.specs.Deltas.{IsSpent, is_answered_delta, is_delta, is_own_delta}
 use Rattle.od_sync.specs.Doing.{IsMaking}
 use Rattle.od_sync.specs.Findings.{found_by, found_in}
-use Rattle.od_sync.specs.Looks.{AllUnlike, IsUnlike, IsWithin, LastSame, Shown, asked_trees, found_until, scans}
+use Rattle.od_sync.specs.Looks.{AllUnlike, AreWhole, IsUnlike, IsWithin, LastSame, Entries, asked_trees, found_until, scans, steps_until}
 use Rattle.od_sync.specs.Scans.{is_root_listing}
 use Rattle.od_sync.proofs.Growth.{answered, count-append, scan-steps}
 
@@ -58,7 +59,7 @@ none-later before step steps more none = ap (λ (log : List LocalStep). found_un
 pub until-append : (before xs ys : List LocalStep) → found_until (before ++ xs) ys ≡ [] → found_until before (xs ++ ys) ≡ found_until before xs
 until-append before [] ys none = ap (λ (log : List LocalStep). found_until log ys) (sym (append-nil before)) ∙ none
 until-append before (step ∷ xs) ys none =
-    ap (λ (found : Shown). cond (is_root_listing step) [] (found_in (local_of before).spots step ++ found))
+    ap (λ (found : Entries). cond (is_root_listing step) [] (found_in (local_of before).spots step ++ found))
     (until-append (before ++ step ∷ []) xs ys (none-later before step xs ys none))
 
 pub scans-append : (before xs ys : List LocalStep) → found_until (before ++ xs) ys ≡ [] → scans before (xs ++ ys) ≡ scans before xs ++ scans (before ++ xs) ys
@@ -66,8 +67,8 @@ scans-append before [] ys none = ap (λ (log : List LocalStep). scans log ys) (s
 scans-append before (step ∷ xs) ys none =
     let next : List LocalStep = before ++ step ∷ [] in
     let later : found_until (next ++ xs) ys ≡ [] = none-later before step xs ys none in
-    ap (λ (found : Shown). cond (is_root_listing step) (found ∷ scans next (xs ++ ys)) (scans next (xs ++ ys))) (until-append next xs ys later)
-    ∙ ap (λ (all : List Shown). cond (is_root_listing step) (found_until next xs ∷ all) all)
+    ap (λ (found : Entries). cond (is_root_listing step) (found ∷ scans next (xs ++ ys)) (scans next (xs ++ ys))) (until-append next xs ys later)
+    ∙ ap (λ (all : List Entries). cond (is_root_listing step) (found_until next xs ∷ all) all)
     (scans-append next xs ys later ∙ ap (λ (log : List LocalStep). scans next xs ++ scans log ys) (append_assoc before (step ∷ []) xs))
     ∙ front-append (is_root_listing step) (found_until next xs) (scans next xs) (scans (before ++ step ∷ xs) ys)
 
@@ -86,7 +87,7 @@ until-makes before [] makes = refl
 until-makes before (step ∷ part) makes =
     let none = made-none (local_of before).spots step makes.0 in
     ap (λ b. cond b [] (found_in (local_of before).spots step ++ found_until (before ++ step ∷ []) part)) none.0
-    ∙ ap (λ (found : Shown). found ++ found_until (before ++ step ∷ []) part) none.1
+    ∙ ap (λ (found : Entries). found ++ found_until (before ++ step ∷ []) part) none.1
     ∙ until-makes (before ++ step ∷ []) part makes.1
 
 scans-below : (before part : List LocalStep) → list_any is_root_listing part ≡ false → scans before part ≡ []
@@ -104,9 +105,9 @@ until-below : (before part : List LocalStep) → list_any is_root_listing part �
 until-below before [] below = refl
 until-below before (step ∷ part) below =
     let parts = or_parts (is_root_listing step) (list_any is_root_listing part) below in
-    let here : Shown = found_in (local_of before).spots step in
+    let here : Entries = found_in (local_of before).spots step in
     ap (λ b. cond b [] (here ++ found_until (before ++ step ∷ []) part)) parts.0
-    ∙ ap (λ (found : Shown). here ++ found) (until-below (before ++ step ∷ []) part parts.1)
+    ∙ ap (λ (found : Entries). here ++ found) (until-below (before ++ step ∷ []) part parts.1)
 
 pub until-scan : (local : List LocalStep) (edits : List UserEdit) (rest : List LocalStep) → found_until local (scan-steps edits rest) ≡ []
 until-scan local [] rest = refl
@@ -115,20 +116,70 @@ until-scan local (edit ∷ edits) rest = until-scan (local ++ User edit ∷ []) 
 pub scans-scan : (local : List LocalStep) (edits : List UserEdit) (rest : List LocalStep) → list_any is_root_listing rest ≡ false → scans local (scan-steps edits rest) ≡ found_by (edited local edits ++ Op (op.List []) ∷ []) rest ∷ []
 scans-scan local [] rest below =
     let next : List LocalStep = local ++ Op (op.List []) ∷ [] in
-    ap (λ (more : List Shown). found_until next rest ∷ more) (scans-below next rest below)
-    ∙ ap (λ (found : Shown). found ∷ []) (until-below next rest below)
+    ap (λ (more : List Entries). found_until next rest ∷ more) (scans-below next rest below)
+    ∙ ap (λ (found : Entries). found ∷ []) (until-below next rest below)
     ∙ ap (λ (log : List LocalStep). found_by (log ++ Op (op.List []) ∷ []) rest ∷ []) (sym (append-nil local))
 scans-scan local (edit ∷ edits) rest below =
     scans-scan (local ++ User edit ∷ []) edits rest below
     ∙ ap (λ (log : List LocalStep). found_by (log ++ Op (op.List []) ∷ []) rest ∷ []) (append_assoc local (User edit ∷ []) (map (λ (each : UserEdit). User each) edits))
+
+-- ---- scans that found the whole tree
+alone-either : (b : Bool) (step : LocalStep) (more fewer : List LocalStep) → (NoUser more → NoUser fewer) → NoUser (cond b [] (step ∷ more)) → NoUser (cond b [] (step ∷ fewer))
+alone-either true step more fewer so alone = tt
+alone-either false step more fewer so alone = (alone.0, so alone.1)
+
+alone-until : (xs ys : List LocalStep) → NoUser (steps_until (xs ++ ys)) → NoUser (steps_until xs)
+alone-until [] ys alone = tt
+alone-until (step ∷ xs) ys alone = alone-either (is_root_listing step) step (steps_until (xs ++ ys)) (steps_until xs) (alone-until xs ys) alone
+
+pub whole-then : (before xs ys : List LocalStep) → found_until (before ++ xs) ys ≡ [] → AreWhole before xs → AreWhole (before ++ xs) ys → AreWhole before (xs ++ ys)
+whole-then before [] ys none first second = subst (λ (log : List LocalStep). AreWhole log ys) (append-nil before) second
+whole-then before (step ∷ xs) ys none first second =
+    let next : List LocalStep = before ++ step ∷ [] in
+    let later : found_until (next ++ xs) ys ≡ [] = none-later before step xs ys none in (
+      λ lists alone. until-append next xs ys later ∙ first.0 lists (alone-until xs ys alone),
+      whole-then next xs ys later first.1 (subst (λ (log : List LocalStep). AreWhole log ys) (sym (append_assoc before (step ∷ []) xs)) second),
+    )
+
+whole-below : (before part : List LocalStep) → list_any is_root_listing part ≡ false → AreWhole before part
+whole-below before [] below = tt
+whole-below before (step ∷ part) below =
+    let parts = or_parts (is_root_listing step) (list_any is_root_listing part) below in
+    (λ lists alone. absurd (cc (lists, parts.0)), whole-below (before ++ step ∷ []) part parts.1)
+
+pub whole-makes : (before part : List LocalStep) → AllByRecursion IsMaking part → AreWhole before part
+whole-makes before part makes = whole-below before part (made-below part makes)
+
+steps-below : (part : List LocalStep) → list_any is_root_listing part ≡ false → steps_until part ≡ part
+steps-below [] below = refl
+steps-below (step ∷ part) below =
+    let parts = or_parts (is_root_listing step) (list_any is_root_listing part) below in
+    ap (λ b. cond b [] (step ∷ steps_until part)) parts.0 ∙ ap (λ (steps : List LocalStep). step ∷ steps) (steps-below part parts.1)
+
+-- what a scan in which the user does nothing finds is the tree where it begins
+abbrev FindsWhole : List LocalStep → List LocalStep → Type 0
+FindsWhole rest log = found_by (log ++ Op (op.List []) ∷ []) rest ≡ scanned (local_tree log)
+
+pub whole-scan : (local : List LocalStep) (edits : List UserEdit) (rest : List LocalStep) → list_any is_root_listing rest ≡ false
+    → (NoUser rest → found_by (edited local edits ++ Op (op.List []) ∷ []) rest ≡ scanned (local_tree (edited local edits))) → AreWhole local (scan-steps edits rest)
+whole-scan local [] rest below found =
+    let next : List LocalStep = local ++ Op (op.List []) ∷ [] in (
+      λ lists alone. until-below next rest below ∙ subst (FindsWhole rest) (append-nil local) (found (subst NoUser (steps-below rest below) alone)),
+      whole-below next rest below,
+    )
+whole-scan local (edit ∷ edits) rest below found = (
+  λ lists alone. absurd (cc lists),
+  whole-scan (local ++ User edit ∷ []) edits rest below
+      (λ alone. subst (FindsWhole rest) (sym (append_assoc local (User edit ∷ []) (map (λ (each : UserEdit). User each) edits))) (found alone)),
+)
 
 -- ---- what the drive had where it was asked
 pub asked-append : (drive xs ys : List Step) → asked_trees drive (xs ++ ys) ≡ asked_trees drive xs ++ asked_trees (drive ++ xs) ys
 asked-append drive [] ys = ap (λ (log : List Step). asked_trees log ys) (sym (append-nil drive))
 asked-append drive (step ∷ xs) ys =
     let next : List Step = drive ++ step ∷ [] in
-    let here : Shown = scanned (tree_of (held_by drive)) in
-    ap (λ (all : List Shown). cond (is_answered_delta step) (here ∷ all) all)
+    let here : Entries = scanned (tree_of (held_by drive)) in
+    ap (λ (all : List Entries). cond (is_answered_delta step) (here ∷ all) all)
     (asked-append next xs ys ∙ ap (λ (log : List Step). asked_trees next xs ++ asked_trees log ys) (append_assoc drive (step ∷ []) xs))
     ∙ front-append (is_answered_delta step) here (asked_trees next xs) (asked_trees (drive ++ step ∷ xs) ys)
 
@@ -172,7 +223,7 @@ spent-not-answered request spent such = any-none is_answered_delta (IsSuch (IsSp
 pub asked-look : (drive spent : List Step) (token : Option (List ℕ)) → OwnAre (IsSpent (Delta token)) spent → asked_trees drive (spent ++ answered token) ≡ scanned (tree_of (held_by (drive ++ spent))) ∷ []
 asked-look drive spent token such =
     asked-append drive spent (answered token)
-    ∙ ap (λ (trees : List Shown). trees ++ scanned (tree_of (held_by (drive ++ spent))) ∷ []) (asked-nothing drive spent (spent-not-answered (Delta token) spent such))
+    ∙ ap (λ (trees : List Entries). trees ++ scanned (tree_of (held_by (drive ++ spent))) ∷ []) (asked-nothing drive spent (spent-not-answered (Delta token) spent such))
 
 -- ---- how many looks
 scan-count : (edits : List UserEdit) (rest : List LocalStep) → list_any is_root_listing rest ≡ false → count_by is_root_listing (scan-steps edits rest) ≡ 1
@@ -213,11 +264,11 @@ pub unlike-then : {a b : ℕ} (drive m1 m2 : List Step) (local p1 p2 : List Loca
 unlike-then {a} {b} drive m1 m2 local p1 p2 begins first second = record {
   looks_are =
       let counted : length (scans local (p1 ++ p2)) ≡ length (scans local p1) + length (scans (local ++ p1) p2) =
-      ap (λ (found : List Shown). length found) (scans-append local p1 p2 begins) ∙ length-append (scans local p1) (scans (local ++ p1) p2) in
+      ap (λ (found : List Entries). length found) (scans-append local p1 p2 begins) ∙ length-append (scans local p1) (scans (local ++ p1) p2) in
       omega (arith, counted, first.looks_are, second.looks_are);
   unlike =
-      subst (λ (found : List Shown). AllZip IsUnlike found (asked_trees drive (m1 ++ m2))) (sym (scans-append local p1 p2 begins))
-      (subst (λ (had : List Shown). AllZip IsUnlike (scans local p1 ++ scans (local ++ p1) p2) had) (sym (asked-append drive m1 m2))
+      subst (λ (found : List Entries). AllZip IsUnlike found (asked_trees drive (m1 ++ m2))) (sym (scans-append local p1 p2 begins))
+      (subst (λ (had : List Entries). AllZip IsUnlike (scans local p1 ++ scans (local ++ p1) p2) had) (sym (asked-append drive m1 m2))
       (zip-append IsUnlike (scans local p1) (scans (local ++ p1) p2) (asked_trees drive m1) (asked_trees (drive ++ m1) m2) first.unlike second.unlike));
 }
 
@@ -228,8 +279,8 @@ same-then drive m1 m2 local p1 p2 begins first last = record {
   had = asked_trees drive m1 ++ last.had;
   same = last.same;
   scans_are =
-      scans-append local p1 p2 begins ∙ ap (λ (found : List Shown). scans local p1 ++ found) last.scans_are ∙ sym (append_assoc (scans local p1) last.found (last.same ∷ []));
+      scans-append local p1 p2 begins ∙ ap (λ (found : List Entries). scans local p1 ++ found) last.scans_are ∙ sym (append_assoc (scans local p1) last.found (last.same ∷ []));
   asked_are =
-      asked-append drive m1 m2 ∙ ap (λ (had : List Shown). asked_trees drive m1 ++ had) last.asked_are ∙ sym (append_assoc (asked_trees drive m1) last.had (last.same ∷ []));
+      asked-append drive m1 m2 ∙ ap (λ (had : List Entries). asked_trees drive m1 ++ had) last.asked_are ∙ sym (append_assoc (asked_trees drive m1) last.had (last.same ∷ []));
   unlike = zip-append IsUnlike (scans local p1) last.found (asked_trees drive m1) last.had first.unlike last.unlike;
 }

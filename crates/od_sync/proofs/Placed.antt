@@ -21,7 +21,7 @@ use Rattle.od_tree.specs.declared.step.LocalStep.{LocalStep}
 use Rattle.od_tree.specs.declared.step.LocalStep.TheVariants.{User, Op}
 use Rattle.od_tree.specs.declared.step.TreeOp.{TreeOp}
 use Rattle.od_tree.specs.declared.step.TreeOp.TheVariants as op
-use Rattle.od_sync.specs.Doing.{AreRowsOf, CanMake, CanPlace, CanStand, GivesRows, IsBroughtTo, IsBytes, IsFetchFit, IsFileAt, IsFolderOf, IsMakingOf, IsPathOf, Makes, MakesAll, NoFile, NoFolder, PlacesAll, PlacesThese, file_spot, folder_spot, placed_file, placed_files, placed_in, placed_row, row_of}
+use Rattle.od_sync.specs.Doing.{AreRowsOf, CanMake, CanPlace, CanStand, GivesRows, IsBroughtTo, IsBytes, IsFetchFit, IsFileAt, IsFolderOf, IsMakingOf, IsPathOf, Makes, MakesAll, NoFile, NoFolder, PlacesAll, PlacesThese, file_spot, folder_spot, placed_file, placed_files, placed_in, placed_row, row_of_file}
 use Rattle.od_sync.specs.Making.{MakesNext, PlacesFetched, bytes_of}
 use Rattle.od_sync.specs.declared.planning.Fetching.{Fetching}
 use Rattle.od_sync.proofs.Made.{in-two, makes-so, makes-then}
@@ -256,11 +256,11 @@ these-none call before after fault refuses = record {
 }
 
 -- ---- the rows of what was placed
-given-these : (rows : List BaseRow) (files : List (List (List ℕ) × List ℕ)) (before after : Option (List LocalStep)) → rows ≡ map row_of files → PlacesThese files before after → GivesRows rows before after
+given-these : (rows : List BaseRow) (files : List (List (List ℕ) × List ℕ)) (before after : Option (List LocalStep)) → rows ≡ map row_of_file files → PlacesThese files before after → GivesRows rows before after
 given-these rows files before after are these = record {
   told = λ old told.
       let placed = these.told old told in
-      record { part = placed.part; grown = placed.grown; rows_are = are ∙ ap (map row_of) (sym placed.placed) };
+      record { part = placed.part; grown = placed.grown; rows_are = are ∙ ap (map row_of_file) (sym placed.placed) };
 }
 
 pub given-one : (fetch : Fetching) (bytes : List ℕ) (row : BaseRow) (before after : Option (List LocalStep)) (placed : Bool) → placed ≡ true → row ≡ placed_row fetch → digest_record bytes ≡ fetch.digest
@@ -283,8 +283,8 @@ given-then rows more before now after first second = record {
         grown = two.grown ∙ ap (λ log. Some log) (append_assoc old one.part two.part);
         rows_are =
             ap (λ those. those ++ more) one.rows_are
-            ∙ (ap (λ those. map row_of (placed_files one.part) ++ those) two.rows_are
-            ∙ (sym (map-append row_of (placed_files one.part) (placed_files two.part)) ∙ ap (map row_of) (sym (placed-append one.part two.part))));
+            ∙ (ap (λ those. map row_of_file (placed_files one.part) ++ those) two.rows_are
+            ∙ (sym (map-append row_of_file (placed_files one.part) (placed_files two.part)) ∙ ap (map row_of_file) (sym (placed-append one.part two.part))));
       };
 }
 

@@ -10,6 +10,8 @@ use Rattle.gd_item.specs.declared.reply.PageLink.{PageLink}
 use Rattle.gd_item.specs.declared.reply.PageLink.TheVariants as link
 use Rattle.gd_item.specs.declared.request.Request.TheVariants.{Delta}
 use Rattle.gd_item.specs.declared.step.Step.{Step}
+use Rattle.gd_item.specs.declared.step.Step.TheVariants.{Ask}
+use Rattle.gd_item.specs.declared.step.Who.TheVariants.{Own}
 use Rattle.od_keeper.proofs.Growing.{sound-stays}
 use Rattle.od_keeper.specs.Images.{applied}
 use Rattle.od_keeper.specs.Sound.{IsSound, ItemsAre, IsAccepted}
@@ -20,6 +22,7 @@ use Rattle.od_mirror.specs.Pulled.{after_link, paths_of, with_records}
 use Rattle.od_mirror.specs.declared.view.MirrorView.{MirrorView}
 use Rattle.od_transfer.specs.Asking.{is_last_link}
 use Rattle.od_transfer.specs.Undisturbed.{is_servable}
+use Rattle.od_sync.specs.Chains.{IsChained}
 use Rattle.od_sync.specs.Ends.{stop_of_pull}
 use Rattle.od_sync.specs.PullChanges.{IsPullChange}
 use Rattle.od_sync.specs.Pulls.{Pulls, PullsView, seen}
@@ -29,6 +32,7 @@ use Rattle.od_sync.specs.declared.ends.SyncStop.TheVariants as stop
 use Rattle.od_sync.specs.declared.pulling.PullStop.{PullStop}
 use Rattle.od_sync.specs.declared.pulling.PullStop.TheVariants as pull
 use Rattle.od_sync.specs.declared.receiving.Received.{Received}
+use Rattle.od_sync.proofs.Chained.{chain-page}
 use Rattle.od_sync.proofs.ImagesAfter.{pull_applied, pulled_items_rise, sound_items_rise}
 use Rattle.od_sync.proofs.KeptPull.{view-items, view-sound}
 use Rattle.od_sync.proofs.PageTokens.{page_token_servable}
@@ -51,12 +55,16 @@ last-link : (items : List (ℕ × Item)) (l : PageLink) (text : List ℕ) → is
 last-link items (link.Next token) text is last = absurd (cc is)
 last-link items (link.Delta token) text is last = let same : text ≡ token = cc last in ap (λ t. link.Delta t) (sym same)
 
+view-link : (items : List Item) (token : Option (List ℕ)) (drive : List Step) (after : Option (List Step)) (view : MirrorView) (pulled : PullsView items token drive after view)
+    → pulled.last.page.link ≡ link.Delta view.token
+view-link items token drive after view pulled =
+    let page = pulled.last.page in
+    last-link (with_records (with_records [] items) page.items) page.link view.token pulled.last.last_page pulled.view_is.token
+
 view-servable : (items : List Item) (token : Option (List ℕ)) (drive : List Step) (after : Option (List Step)) (view : MirrorView) (pulled : PullsView items token drive after view)
     → is_servable (state_of (seen drive pulled.last)) (Delta (Some view.token)) ≡ true
 view-servable items token drive after view pulled =
-    let page = pulled.last.page in
-    page_token_servable (seen drive pulled.last) token pulled.last.heard.size page view.token pulled.last.heard.page_is
-    (last-link (with_records (with_records [] items) page.items) page.link view.token pulled.last.last_page pulled.view_is.token)
+    page_token_servable (seen drive pulled.last) token pulled.last.heard.size pulled.last.page view.token pulled.last.heard.page_is (view-link items token drive after view pulled)
 
 -- ---- a pull and its commit
 got-sound : (image : Image) (received : Received) (view : MirrorView) (drive : List Step) (after : Option (List Step)) (pulled : PullsView image.items image.token drive after view)
@@ -72,6 +80,13 @@ got-sound image received view drive after pulled is sound =
           (subst (λ (token : Option (List ℕ)). ItemsAre view.items log token) (sym is.token_is) (view-sound image.items image.token drive after sound.items view pulled));
     }
 
+got-chained : (image : Image) (received : Received) (view : MirrorView) (drive : List Step) (after : Option (List Step)) (pulled : PullsView image.items image.token drive after view)
+    → IsReceived image view.items view.token received → IsChained image.token drive (pulled.last.heard.part ++ Ask Own (Delta image.token) true true ∷ []) received.image.token
+got-chained image received view drive after pulled is =
+    subst (λ (token : Option (List ℕ)). IsChained image.token drive (pulled.last.heard.part ++ Ask Own (Delta image.token) true true ∷ []) token) (sym is.token_is)
+    (chain-page image.token drive pulled.last.heard.part pulled.last.heard.size pulled.last.page view.token pulled.last.heard.such pulled.last.heard.page_is
+    (view-link image.items image.token drive after view pulled))
+
 got : (image : Image) (received : Received) (view : MirrorView) (drive : List Step) (images : List Image) (after : Option (List Step)) (images_after : Option (List Image))
     → PullsView image.items image.token drive after view → IsReceived image view.items view.token received → images_after ≡ Some (images ++ received.image ∷ [])
     → Got image received drive images after images_after
@@ -79,6 +94,7 @@ got image received view drive images after images_after pulled is grown = record
   spent = pulled.last.heard.part;
   such = pulled.last.heard.such;
   sent = pulled.last.heard.sent;
+  chained = got-chained image received view drive after pulled is;
   drive_grown = pulled.last.heard.grown;
   images_grown = grown;
   sound = λ sound. got-sound image received view drive after pulled is sound;

@@ -34,23 +34,26 @@ use Rattle.od_tree.specs.declared.step.LocalStep.{LocalStep}
 use Rattle.od_tree.specs.declared.step.LocalStep.TheVariants.{User, Op}
 use Rattle.od_tree.specs.declared.step.TreeOp.TheVariants as op
 use Rattle.od_sync.specs.Agreeing.{agreed_rows, agreement, dropped_paths, landed_rows}
+use Rattle.od_sync.specs.Chains.{Chained, IsChained}
 use Rattle.od_sync.specs.Comparing.{is_same, scanned}
 use Rattle.od_sync.specs.Deltas.{AskedDelta, AsksDelta, EndsUnserved, is_answered_delta, is_own_delta, last_heard_after}
 use Rattle.od_sync.specs.Doing.{AreAcceptedFetches, CanMake, CanPlace, IsFetchOf, IsFileOf, IsFolderOf, IsMaking, Made, Makes, file_spot, folder_spot}
 use Rattle.od_sync.specs.FreshPlans.{FreshPlan}
 use Rattle.od_sync.specs.Planning.{planned_fetches, planned_folders}
 use Rattle.od_sync.specs.Rounds.{Acted, Acts, AreKindsAccepted, EndsWithUnserved, Grew, Rounds, RoundsTo}
+use Rattle.od_sync.specs.Serving.{KeepsToken, TokenKept}
 use Rattle.od_sync.specs.Syncing.{Goes, IsDoStop, Meets, Met, Went}
 use Rattle.od_sync.specs.Scans as scan
 use Rattle.od_sync.specs.Scans.{IsLook, is_root_listing}
 use Rattle.od_sync.specs.Pulls.{PullsBad, StopsBad}
-use Rattle.od_sync.specs.Looks.{AllUnlike, IsWithin, Looked, found_until}
+use Rattle.od_sync.specs.Looks.{AllUnlike, AreWhole, IsWithin, Looked, found_until}
 use Rattle.od_sync.specs.Syncs.{EndedBad, IsFromDrive, since_listed}
 use Rattle.od_sync.specs.declared.ends.SyncStop.{SyncStop}
 use Rattle.od_sync.specs.declared.ends.SyncStop.TheVariants.{BadPages, Unserved}
 use Rattle.od_sync.specs.declared.looking.Sides.{Sides}
 use Rattle.od_sync.specs.declared.planning.Fetching.{Fetching}
 use Rattle.od_sync.specs.declared.scanning.Node.{Node}
+use Rattle.od_sync.proofs.Chained.{chain-then, chain-transfers}
 use Rattle.od_sync.proofs.Compares.{answered-keeps, compared-same, edited-none, listed-last, look-same, look-unlike, looks-keep, none-unlike, rest-alone, unlike-before}
 use Rattle.od_sync.proofs.FreshPlans.{fresh_plan}
 use Rattle.od_sync.proofs.HadThen.{had-looks, planned-had}
@@ -58,7 +61,7 @@ use Rattle.od_sync.proofs.KeptPull as pull
 use Rattle.od_sync.proofs.OwnRequests.{own_requests_keep}
 use Rattle.od_sync.proofs.RecordDigests.{record_digest_accepted}
 use Rattle.od_sync.proofs.Growth.{answered, asked-answered, asked-transfers, count-append, each-first, each-second, grew-more, same-log, same-more, scan-is-steps, scan-looks, scan-steps}
-use Rattle.od_sync.proofs.LooksFound.{unlike-then, until-append, until-makes, until-scan, within-done, within-look}
+use Rattle.od_sync.proofs.LooksFound.{unlike-then, until-append, until-makes, until-scan, whole-makes, whole-scan, whole-then, within-done, within-look}
 use Rattle.od_sync.proofs.Made.{makes-steps}
 use Rattle.od_sync.proofs.PlannedKinds.{IsKindIn, fetches-accepted}
 use Rattle.od_sync.proofs.ServedTokens.{is-served}
@@ -174,12 +177,23 @@ module _ {image : Image} {sides : Sides} {drive : List Step} {local : List Local
   met-unlike unlike sound own alone same =
       unlike-before local m.edits m.rest drive m.spent image.token m.items sides.local sides.remote m.such (m.mirrors (met-sound sound)) m.remote_is m.local_is unlike own alone same
 
+  -- the drive is asked with the token of the last image, and the next token is that of the image that is last then
+  pub met-chained : IsChained (last_image images).token drive (m.spent ++ answered image.token) sides.image.token
+  met-chained = subst (λ (i : Image). IsChained i.token drive (m.spent ++ answered image.token) sides.image.token) (sym last) m.chained
+
+  pub met-chained-on : IsChained (last_image images).token drive (m.spent ++ answered image.token) (last_image images-then).token
+  met-chained-on = subst (λ (i : Image). IsChained (last_image images).token drive (m.spent ++ answered image.token) i.token) (sym met-last) met-chained
+
   -- it is one look, which begins with the listing of the root and ends in looks
   pub met-within : IsWithin 1 (m.spent ++ answered image.token) (scan-steps m.edits m.rest)
   met-within = within-look m.spent image.token m.edits m.rest m.such m.sent m.once
 
   pub met-begins : found_until local (scan-steps m.edits m.rest) ≡ []
   met-begins = until-scan local m.edits m.rest
+
+  -- where the user left the folder alone, it found the whole tree
+  pub met-whole : AreWhole local (scan-steps m.edits m.rest)
+  met-whole = whole-scan local m.edits m.rest m.once (λ alone. sym m.found_is ∙ m.local_is alone)
 
   pub met-looks : AllByRecursion IsLook (since_listed local-then)
   met-looks = subst (λ (steps : List LocalStep). AllByRecursion IsLook steps) (sym (listed-last (edited local m.edits) m.rest m.once)) m.looks
@@ -202,6 +216,17 @@ module _ {image : Image} {sides : Sides} {drive : List Step} {local : List Local
       subst (λ (steps : List LocalStep). AllByRecursion IsMaking steps) (same-more local_later local-then made.part part made.grown grown)
       (makes-steps (IsFolderOf (planned_folders sides.image.rows sides.local sides.remote)) (IsFetchOf (planned_fetches sides.image.rows sides.local sides.remote)) made.part made.makes)
 
+  -- the requests of a plan leave the token as it is
+  transfers-chained : (later : List Step) → OwnAre IsTransfer later → IsChained (last_image images).token drive ((m.spent ++ answered image.token) ++ later) sides.image.token
+  transfers-chained later transfers =
+      chain-then (last_image images).token sides.image.token sides.image.token drive (m.spent ++ answered image.token) later met-chained
+      (chain-transfers sides.image.token (drive ++ (m.spent ++ answered image.token)) later transfers)
+
+  token-kept : {images_later : Option (List Image)} (added : List Image) → TokenKept sides.image images-then images_later → images_later ≡ Some (images-then ++ added)
+      → (last_image (images-then ++ added)).token ≡ sides.image.token
+  token-kept {images_later} added kept grown =
+      ap (λ (more : List Image). (last_image (images-then ++ more)).token) (same-more images_later images-then added kept.added grown kept.grown) ∙ kept.same
+
   -- both sides are the same
   pub round-settled : (fb fn : ℕ) → is_same sides.local sides.remote ≡ true → RoundsTo fb fn drive local images after local_after images_after (Ok None)
   round-settled fb fn same = record {
@@ -217,8 +242,11 @@ module _ {image : Image} {sides : Sides} {drive : List Step} {local : List Local
     rounded = record {
       grew = met-grew;
       within = met-within;
+      chained = (sides.image.token, met-chained);
+      chained_on = met-chained-on;
       looked = met-looked;
       begins = met-begins;
+      whole = met-whole;
       settled = λ is sound apart alone.
           compared-same (edited local m.edits) m.rest (drive ++ m.spent) image.token m.items sides.local sides.remote m.looks m.once (m.mirrors (met-sound sound)) m.remote_is m.local_is same apart alone;
       looks = λ is. met-looks;
@@ -271,8 +299,9 @@ module _ {image : Image} {sides : Sides} {drive : List Step} {local : List Local
   pub round-acted : {next : Image} {later : Option (List Step)} {local_later : Option (List LocalStep)} {images_later : Option (List Image)} (fa fb fn : ℕ) → fa ≤ fb → is_same sides.local sides.remote ≡ false
       → Acted sides next fb fn drive-then local-then images-then later local_later images_later
       → PlanMade sides local-then local_later
+      → TokenKept sides.image images-then images_later
       → RoundsTo fa fn drive local images later local_later images_later (Ok (Some next))
-  round-acted {next} {later} {local_later} {images_later} fa fb fn rises unlike a made = record {
+  round-acted {next} {later} {local_later} {images_later} fa fb fn rises unlike a made kept = record {
     more = (m.spent ++ answered image.token) ++ a.did.more;
     drive_now = drive-then ++ a.did.more;
     part = scan-steps m.edits m.rest ++ a.did.part;
@@ -285,6 +314,10 @@ module _ {image : Image} {sides : Sides} {drive : List Step} {local : List Local
     rounded = record {
       grew = acted-grew a made;
       within = within-done (m.spent ++ answered image.token) a.did.more (scan-steps m.edits m.rest) a.did.part met-within a.did.transfers (made-steps a.did.part made a.did.local_grown);
+      chained = (sides.image.token, transfers-chained a.did.more a.did.transfers);
+      chained_on =
+          subst (λ (token : Option (List ℕ)). IsChained (last_image images).token drive ((m.spent ++ answered image.token) ++ a.did.more) token)
+          (sym (token-kept a.did.added kept a.did.images_grown)) (transfers-chained a.did.more a.did.transfers);
       looked = record {
         answered = omega (arith, met-looked.answered, count-append is_answered_delta (m.spent ++ answered image.token) a.did.more);
         listed = omega (arith, met-looked.listed, count-append is_root_listing (scan-steps m.edits m.rest) a.did.part);
@@ -292,6 +325,10 @@ module _ {image : Image} {sides : Sides} {drive : List Step} {local : List Local
       begins =
           until-append local (scan-steps m.edits m.rest) a.did.part (until-makes (local ++ scan-steps m.edits m.rest) a.did.part (made-steps a.did.part made a.did.local_grown))
           ∙ met-begins;
+      whole =
+          let makes : AllByRecursion IsMaking a.did.part = made-steps a.did.part made a.did.local_grown in
+          whole-then local (scan-steps m.edits m.rest) a.did.part (until-makes (local ++ scan-steps m.edits m.rest) a.did.part makes) met-whole
+          (whole-makes (local ++ scan-steps m.edits m.rest) a.did.part makes);
       settled = λ is. absurd (cc is);
       looks = λ is. absurd (cc is);
       found_same = λ is. absurd (cc is);
@@ -313,6 +350,10 @@ module _ {image : Image} {sides : Sides} {drive : List Step} {local : List Local
   }
 
   -- the plan was stopped
+  went-transfers : {later : Option (List Step)} (more : List Step) → Grown IsTransfer drive-then later → later ≡ Some (drive-then ++ more) → OwnAre IsTransfer more
+  went-transfers {later} more transfers grown =
+      subst (λ (steps : List Step). OwnAre IsTransfer steps) (same-more later drive-then transfers.part more transfers.grown grown) transfers.such
+
   pub round-act-stopped : {later : Option (List Step)} {local_later : Option (List LocalStep)} {images_later : Option (List Image)} (fa fn : ℕ) (stop : SyncStop) → IsDoStop stop
       → Went (IsSound sides.image drive-then × AreKindsAccepted drive-then sides) drive-then local-then images-then later local_later images_later
       → Grown IsTransfer drive-then later
@@ -331,11 +372,12 @@ module _ {image : Image} {sides : Sides} {drive : List Step} {local : List Local
     rounded = record {
       grew = grew-more w.more w.part w.added met-grew w.asked w.steps (λ sound. w.sound (agreed-sound-then sound, met-kinds sound)) (made-had w.more w.part made w.local_grown);
       within =
-          within-done (m.spent ++ answered image.token) w.more (scan-steps m.edits m.rest) w.part met-within
-          (subst (λ (steps : List Step). OwnAre IsTransfer steps) (same-more later drive-then transfers.part w.more transfers.grown w.drive_grown) transfers.such)
-          (made-steps w.part made w.local_grown);
+          within-done (m.spent ++ answered image.token) w.more (scan-steps m.edits m.rest) w.part met-within (went-transfers w.more transfers w.drive_grown) (made-steps w.part made w.local_grown);
+      chained = (sides.image.token, transfers-chained w.more (went-transfers w.more transfers w.drive_grown));
+      chained_on = tt;
       looked = tt;
       begins = tt;
+      whole = tt;
       settled = λ is. absurd (cc is);
       looks = λ is. absurd (cc is);
       found_same = λ is. absurd (cc is);
@@ -378,7 +420,7 @@ ended-bad image drive more images after id last grown bad = record {
 }
 
 -- it is one look at most
-stopped-within : (token : Option (List ℕ)) (drive more : List Step) (local part : List LocalStep) (after : Option (List Step)) (local_after : Option (List LocalStep)) → AskedDelta token drive after → scan.Looked 1 local local_after
+stopped-within : (token : Option (List ℕ)) (drive more : List Step) (local part : List LocalStep) (after : Option (List Step)) (local_after : Option (List LocalStep)) → AskedDelta token drive after → scan.GrownByLooks 1 local local_after
     → after ≡ Some (drive ++ more) → local_after ≡ Some (local ++ part) → IsWithin 1 more part
 stopped-within token drive more local part after local_after asked looked grown local_grown =
     let asks : asked.part ≡ more = same-more after drive asked.part more asked.grown grown in
@@ -388,8 +430,15 @@ stopped-within token drive more local part after local_after asked looked grown 
       listed = subst (λ (steps : List LocalStep). count_by is_root_listing steps ≤ 1) (same-more local_after local looked.part part looked.grown local_grown) looked.listed;
     }
 
+-- the drive was asked with the token of the image that is last
+stopped-chained : (image : Image) (drive more : List Step) (images : List Image) (after : Option (List Step)) → last_image images ≡ image → AskedDelta image.token drive after → after ≡ Some (drive ++ more)
+    → Chained (last_image images).token drive more
+stopped-chained image drive more images after last asked grown =
+    subst (λ (i : Image). Chained i.token drive more) (sym last)
+    (subst (λ (steps : List Step). Chained image.token drive steps) (same-more after drive asked.part more asked.grown grown) asked.chained)
+
 round-look-stopped : {drive : List Step} {local : List LocalStep} {images : List Image} {after : Option (List Step)} {local_after : Option (List LocalStep)} {images_after : Option (List Image)} (fb fn : ℕ) (image : Image) (stop : SyncStop)
-    → last_image images ≡ image → Went (IsSound image drive) drive local images after local_after images_after → scan.Looked 1 local local_after → AskedDelta image.token drive after
+    → last_image images ≡ image → Went (IsSound image drive) drive local images after local_after images_after → scan.GrownByLooks 1 local local_after → AskedDelta image.token drive after
     → ((n : ℕ) → stop ≡ BadPages (item_id n) → PullsBad image.items image.token drive after n) → ((n : ℕ) → stop ≡ BadPages (item_id n) → images_after ≡ Some images)
     → (stop ≡ Unserved → EndsUnserved (Delta image.token) drive after) → RoundsTo fb fn drive local images after local_after images_after (Err stop)
 round-look-stopped {drive} {local} {images} {after} {local_after} {images_after} fb fn image stop last w looked asked bad stays unserved = record {
@@ -406,8 +455,11 @@ round-look-stopped {drive} {local} {images} {after} {local_after} {images_after}
     grew = went-grew w (λ sound. subst (λ (i : Image). IsSound i drive) last sound)
         (subst (λ (steps : List LocalStep). AllByRecursion IsLook steps) (same-more local_after local looked.part w.part looked.grown w.local_grown) looked.looks);
     within = stopped-within image.token drive w.more local w.part after local_after asked looked w.drive_grown w.local_grown;
+    chained = stopped-chained image drive w.more images after last asked w.drive_grown;
+    chained_on = tt;
     looked = tt;
     begins = tt;
+    whole = tt;
     settled = λ is. absurd (cc is);
     looks = λ is. absurd (cc is);
     found_same = λ is. absurd (cc is);
@@ -427,7 +479,7 @@ round-look-stopped {drive} {local} {images} {after} {local_after} {images_after}
 
 -- ---- the same, where the logs and images may be told
 pub rounds-stopped : {T : Type 0} (fb fn : ℕ) (image : Image) (stop : SyncStop) (before after : Option (List Step)) (local_before local_after : Option (List LocalStep)) (images_before images_after : Option (List Image))
-    → Goes (λ drive. IsSound image drive) image before after local_before local_after images_before images_after → scan.Looks 1 local_before local_after → AsksDelta image.token before after
+    → Goes (λ drive. IsSound image drive) image before after local_before local_after images_before images_after → scan.GrowsByLooks 1 local_before local_after → AsksDelta image.token before after
     → ((n : ℕ) → IsErrOf {T = T} (Err stop) (BadPages (item_id n)) → StopsBad image.items image.token before after n)
     → ((n : ℕ) → IsErrOf {T = T} (Err stop) (BadPages (item_id n)) → Stay images_before images_after)
     → (IsErrOf {T = T} (Err stop) Unserved → (drive : List Step) → before ≡ Some drive → EndsUnserved (Delta image.token) drive after)
@@ -449,13 +501,13 @@ rounds-settled fb fn image sides before after local_before local_after images_be
 pub rounds-acted : (fa fb fn : ℕ) (image : Image) (sides : Sides) (next : Image) (before middle after : Option (List Step)) (local_before local_middle local_after : Option (List LocalStep))
     (images_before images_middle images_after : Option (List Image)) → fa ≤ fb → Meets image sides before middle local_before local_middle images_before images_middle → is_same sides.local sides.remote ≡ false
     → Acts sides next fb fn middle after local_middle local_after images_middle images_after
-    → PlanMakes sides local_middle local_after
+    → PlanMakes sides local_middle local_after → KeepsToken sides.image images_middle images_after
     → Rounds fa fn image before after local_before local_after images_before images_after (Ok (Some next))
-rounds-acted fa fb fn image sides next before middle after local_before local_middle local_after images_before images_middle images_after rises meets unlike acts makes = record {
+rounds-acted fa fb fn image sides next before middle after local_before local_middle local_after images_before images_middle images_after rises meets unlike acts makes keeps = record {
   told = λ drive local images told local_told images_told last.
       let m = meets.told drive local images told local_told images_told last in
       round-acted m last fa fb fn rises unlike (acts.told (drive-then m last) (local-then m last) (images-then m last) m.drive_grown m.local_grown m.images_grown (met-last m last))
-      (makes.told (local-then m last) m.local_grown);
+      (makes.told (local-then m last) m.local_grown) (keeps.told (images-then m last) m.images_grown (met-last m last));
 }
 
 pub rounds-act-stopped : (fa fn : ℕ) (image : Image) (sides : Sides) (stop : SyncStop) (before middle after : Option (List Step)) (local_before local_middle local_after : Option (List LocalStep))

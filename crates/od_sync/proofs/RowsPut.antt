@@ -8,7 +8,7 @@ use Rattle.od_keeper.specs.declared.image.Change.{Change}
 use Rattle.od_keeper.specs.declared.image.Image.{Image}
 use Rattle.od_tree.specs.declared.step.LocalStep.{LocalStep}
 use Rattle.od_sync.specs.Batches.{change_of_rows}
-use Rattle.od_sync.specs.Doing.{GivesRows, Makes, NoFile, PutsRows, placed_files, row_of}
+use Rattle.od_sync.specs.Doing.{GivesRows, Makes, NoFile, PutsRows, placed_files, row_of_file}
 use Rattle.od_sync.proofs.Placed.{placed-append, places-none}
 
 -- ---- a change of rows alone
@@ -35,7 +35,7 @@ puts-folders {IsFolder} image before after makes = record {
       record {
         part = made.part;
         grown = made.grown;
-        next_is = ap (λ (files : List (List (List ℕ) × List ℕ)). record image { rows = put_all by_path (map row_of files) image.rows }) (sym (places-none IsFolder made.part made.makes));
+        next_is = ap (λ (files : List (List (List ℕ) × List ℕ)). record image { rows = put_all by_path (map row_of_file files) image.rows }) (sym (places-none IsFolder made.part made.makes));
       };
 }
 
@@ -55,10 +55,10 @@ put-append compare [] ys placed = refl
 put-append compare (x ∷ xs) ys placed = put-append compare xs ys (put_in_order compare x placed)
 
 put-parts : (first second : List LocalStep) (rows : List BaseRow)
-    → put_all by_path (map row_of (placed_files second)) (put_all by_path (map row_of (placed_files first)) rows) ≡ put_all by_path (map row_of (placed_files (first ++ second))) rows
+    → put_all by_path (map row_of_file (placed_files second)) (put_all by_path (map row_of_file (placed_files first)) rows) ≡ put_all by_path (map row_of_file (placed_files (first ++ second))) rows
 put-parts first second rows =
-    sym (put-append by_path (map row_of (placed_files first)) (map row_of (placed_files second)) rows)
-    ∙ ap (λ (those : List BaseRow). put_all by_path those rows) (sym (map-append row_of (placed_files first) (placed_files second)) ∙ ap (λ (files : List (List (List ℕ) × List ℕ)). map row_of files) (sym (placed-append first second)))
+    sym (put-append by_path (map row_of_file (placed_files first)) (map row_of_file (placed_files second)) rows)
+    ∙ ap (λ (those : List BaseRow). put_all by_path those rows) (sym (map-append row_of_file (placed_files first) (placed_files second)) ∙ ap (λ (files : List (List (List ℕ) × List ℕ)). map row_of_file files) (sym (placed-append first second)))
 
 pub puts-then : (image mid next : Image) (before now after : Option (List LocalStep)) → PutsRows image mid before now → PutsRows mid next now after → PutsRows image next before after
 puts-then image mid next before now after first second = record {
@@ -69,7 +69,7 @@ puts-then image mid next before now after first second = record {
         part = one.part ++ two.part;
         grown = two.grown ∙ ap (λ steps. Some steps) (append_assoc old one.part two.part);
         next_is = two.next_is
-            ∙ (ap (λ (i : Image). record i { rows = put_all by_path (map row_of (placed_files two.part)) i.rows }) one.next_is
+            ∙ (ap (λ (i : Image). record i { rows = put_all by_path (map row_of_file (placed_files two.part)) i.rows }) one.next_is
             ∙ ap (λ (rows : List BaseRow). record image { rows = rows }) (put-parts one.part two.part image.rows));
       };
 }

@@ -14,21 +14,23 @@ use Rattle.od_keeper.specs.declared.image.Image.{Image}
 use Rattle.od_tree.specs.Calls.{edited}
 use Rattle.od_tree.specs.Undisturbed.{IsOp}
 use Rattle.od_tree.specs.declared.step.LocalStep.{LocalStep}
+use Rattle.od_sync.specs.Chains.{IsChained}
 use Rattle.od_sync.specs.Comparing.{is_same}
 use Rattle.od_sync.specs.Deltas.{is_answered_delta, last_heard_after}
 use Rattle.od_sync.specs.Ends.{stop_of_keeper}
 use Rattle.od_sync.specs.Rounds.{EndsWithUnserved, Ran, Rounded, Rounds, Runs, RunsAll, RunsTo, RoundsTo}
 use Rattle.od_sync.specs.Syncing.{Meets, Met}
 use Rattle.od_sync.specs.Scans.{is_root_listing}
-use Rattle.od_sync.specs.Looks.{AllUnlike, IsWithin, LastSame, found_until}
+use Rattle.od_sync.specs.Looks.{AllUnlike, AreWhole, IsWithin, LastSame, found_until}
 use Rattle.od_sync.specs.declared.ends.SyncStop.{SyncStop}
 use Rattle.od_sync.specs.declared.ends.SyncStop.TheVariants.{BadPages, Unserved}
 use Rattle.od_sync.specs.declared.looking.Sides.{Sides}
+use Rattle.od_sync.proofs.Chained.{chain-then}
 use Rattle.od_sync.proofs.Compares.{compared-unlike}
 use Rattle.od_sync.proofs.Growth.{answered, count-append, each-first, each-second, grew-sound, grew-then, scan-steps}
-use Rattle.od_sync.proofs.Rounding.{drive-then, images-then, local-then, met-begins, met-found-unlike, met-grew, met-looked, met-looks, met-sound, met-unlike, met-within}
+use Rattle.od_sync.proofs.Rounding.{drive-then, images-then, local-then, met-begins, met-chained, met-chained-on, met-found-unlike, met-grew, met-looked, met-looks, met-sound, met-unlike, met-whole, met-within}
 use Rattle.od_sync.proofs.Sends.{last-append}
-use Rattle.od_sync.proofs.LooksFound.{same-then, unlike-then, until-append, within-then}
+use Rattle.od_sync.proofs.LooksFound.{same-then, unlike-then, until-append, whole-then, within-then}
 use Rattle.od_sync.proofs.ServedTokens.{is-served}
 use Rattle.od_sync.proofs.CountsRose.{rose-on}
 
@@ -49,13 +51,29 @@ begun : (result : Result Bool SyncStop) (settled : Bool) (lmid log part : List L
 begun result settled lmid log part is same begins =
     ap (λ (l : List LocalStep). found_until l part) (sym same) ∙ subst (λ (r : Result Bool SyncStop). OnOk r (found_until lmid part ≡ [])) is begins
 
+whole-on : (result : Result Bool SyncStop) (local p1 lmid p2 : List LocalStep) → lmid ≡ local ++ p1 → OnOk result (found_until lmid p2 ≡ []) → AreWhole local p1 → OnOk result (AreWhole lmid p2) → OnOk result (AreWhole local (p1 ++ p2))
+whole-on (Ok settled) local p1 lmid p2 is begins first second =
+    whole-then local p1 p2 (ap (λ (log : List LocalStep). found_until log p2) (sym is) ∙ begins) first (subst (λ (log : List LocalStep). AreWhole log p2) is second)
+whole-on (Err stop) local p1 lmid p2 is begins first second = tt
+
+-- the drive is asked on with the token of the image that a round left
+chained-more : (a b c : Option (List ℕ)) (drive m1 mid m2 : List Step) → mid ≡ drive ++ m1 → IsChained a drive m1 b → IsChained b mid m2 c → IsChained a drive (m1 ++ m2) c
+chained-more a b c drive m1 mid m2 is first second = chain-then a b c drive m1 m2 first (subst (λ (log : List Step). IsChained b log m2 c) is second)
+
+chained-on : (result : Result Bool SyncStop) (a b c : Option (List ℕ)) (drive m1 mid m2 : List Step) → mid ≡ drive ++ m1 → IsChained a drive m1 b → OnOk result (IsChained b mid m2 c) → OnOk result (IsChained a drive (m1 ++ m2) c)
+chained-on (Ok settled) a b c drive m1 mid m2 is first second = chained-more a b c drive m1 mid m2 is first second
+chained-on (Err stop) a b c drive m1 mid m2 is first second = tt
+
 ran-more : {drive m1 mid m2 now : List Step} {local p1 lmid p2 lnow : List LocalStep} {images a1 imid a2 inow : List Image} {next : Image} {result : Result Bool SyncStop} (k fa fb fc : ℕ) → fa ≤ fb → fb ≤ fc
     → Rounded fa fb drive m1 mid local p1 lmid images a1 imid (Ok (Some next)) → Ran k fb fc mid m2 now lmid p2 lnow imid a2 inow result
     → Ran (k + 1) fa fc drive (m1 ++ m2) now local (p1 ++ p2) lnow images (a1 ++ a2) inow result
 ran-more {drive} {m1} {mid} {m2} {now} {local} {p1} {lmid} {p2} {lnow} {images} {a1} {imid} {a2} {inow} {next} {result} k fa fb fc rises later first second = record {
   grew = grew-then first.grew second.grew;
   within = within-then m1 m2 p1 p2 first.within second.within;
+  chained = (second.chained.0, chained-more (last_image images).token (last_image imid).token second.chained.0 drive m1 mid m2 first.grew.drive_is first.chained_on second.chained.1);
+  chained_on = chained-on result (last_image images).token (last_image imid).token (last_image inow).token drive m1 mid m2 first.grew.drive_is first.chained_on second.chained_on;
   begins = begins-then result local p1 lmid p2 first.grew.local_is first.begins second.begins;
+  whole = whole-on result local p1 lmid p2 first.grew.local_is second.begins first.whole second.whole;
   looked = λ is. record {
     answered = omega (arith, first.looked.answered, count-append is_answered_delta m1 m2);
     listed = omega (arith, first.looked.listed, count-append is_root_listing p1 p2);
@@ -91,7 +109,10 @@ ran-settled : {drive more now : List Step} {local part lnow : List LocalStep} {i
 ran-settled {more = more} {part = part} k fb fn some r = record {
   grew = r.grew;
   within = within-weaker more part some r.within;
+  chained = r.chained;
+  chained_on = r.chained_on;
   begins = r.begins;
+  whole = r.whole;
   looked = λ is. r.looked;
   looked_by = λ is. absurd (cc is);
   settled = λ is. r.settled refl;
@@ -111,7 +132,10 @@ ran-stopped : {drive more now : List Step} {local part lnow : List LocalStep} {i
 ran-stopped {more = more} {part = part} k fb fn some r = record {
   grew = r.grew;
   within = within-weaker more part some r.within;
+  chained = r.chained;
+  chained_on = tt;
   begins = tt;
+  whole = tt;
   looked = λ is. absurd (cc is);
   looked_by = λ is. absurd (cc is);
   settled = λ is. absurd (cc is);
@@ -142,7 +166,10 @@ runs-unlike {image} {sides} {drive} {local} {images} {after} {local_after} {imag
   ran = record {
     grew = met-grew m last;
     within = met-within m last;
+    chained = (sides.image.token, met-chained m last);
+    chained_on = met-chained-on m last;
     begins = met-begins m last;
+    whole = met-whole m last;
     looked = λ is. absurd (cc is);
     looked_by = λ is. met-looked m last;
     settled = λ is. absurd (cc is);
@@ -268,7 +295,10 @@ runs-not-loaded k fb fn fault stop log local_log images_before images_after is s
         had = λ sound. tt;
       };
       within = record { answered = omega arith; sent = omega arith; listed = omega arith };
+      chained = ((last_image images).token, refl);
+      chained_on = tt;
       begins = tt;
+      whole = tt;
       looked = λ no_end. absurd (cc no_end);
       looked_by = λ no_end. absurd (cc no_end);
       settled = λ no_end. absurd (cc no_end);

@@ -25,6 +25,7 @@ use Rattle.od_sync.specs.declared.delta.DeltaFault.{DeltaFault}
 use Rattle.od_sync.specs.declared.delta.DeltaFault.TheVariants.{LinkFault, Unserved, Memory}
 use Rattle.od_transfer.proofs.Logs.{such-others, such-also, such-append}
 use Rattle.od_sync.specs.Deltas.{AskedDelta, AsksDelta, IsAskedWith, is_delta, is_own_delta, is_answered_delta, DeltaAsks, page_in, last_heard_after, heard_step, IsSpent, Spent, SpentThrice, PageHeard, EndsUnserved, SendsOnce, Sent, is_last_page}
+use Rattle.od_sync.proofs.Chained.{chain-page, chain-spent, last-token}
 use Rattle.od_sync.proofs.Compared.{both}
 use Rattle.od_sync.proofs.Growth.{count-append}
 
@@ -265,12 +266,13 @@ asks-unserved request n a before after few some all = record {
 asked-with : (token : Option (List ℕ)) (sent : Request) (served heard : Bool) → IsSpent (Delta token) sent served heard → IsAskedWith token sent served heard
 asked-with token sent served heard spent = spent.0
 
-page-asked : (token : Option (List ℕ)) (old : List Step) (after : Option (List Step)) (page : Page) → PageHeard 2 (Delta token) old after page → AskedDelta token old after
-page-asked token old after page h = record {
+page-asked : (token : Option (List ℕ)) (old : List Step) (after : Option (List Step)) (page : Page) → is_last_link page.link ≡ true → PageHeard 2 (Delta token) old after page → AskedDelta token old after
+page-asked token old after page is_last h = record {
   part = h.part ++ Ask Own (Delta token) true true ∷ [];
   such = such-append (IsAskedWith token) h.part (Ask Own (Delta token) true true ∷ []) (such-also (IsSpent (Delta token)) (IsAskedWith token) (asked-with token) h.part h.such) (refl, tt);
   sent = one-more is_own_delta h.part (Ask Own (Delta token) true true) 2 h.sent;
   answered = one-more is_answered_delta h.part (Ask Own (Delta token) true true) 0 (spent-unanswered (Delta token) h.part 0 h.such);
+  chained = let text = last-token page.link is_last in (Some text.0, chain-page token old h.part h.size page text.0 h.such h.page_is text.1);
   grown = h.grown ∙ ap (λ log. Some log) (append_assoc old h.part (Ask Own (Delta token) true true ∷ []));
 }
 
@@ -280,9 +282,10 @@ spent-asked token old after s = record {
   such = such-also (IsSpent (Delta token)) (IsAskedWith token) (asked-with token) s.part s.such;
   sent = s.sent;
   answered = spent-unanswered (Delta token) s.part 1 s.such;
+  chained = (token, chain-spent token old s.part s.such);
   grown = s.grown;
 }
 
 pub delta-asks : (token : Option (List ℕ)) (result : Result Page DeltaFault) (before after : Option (List Step)) → DeltaAsks (Delta token) before after result → AsksDelta token before after
-delta-asks token (Ok page) before after asks = record { told = λ old told. page-asked token old after page (asks.ok old told) }
+delta-asks token (Ok page) before after asks = record { told = λ old told. page-asked token old after page asks.last_page (asks.ok old told) }
 delta-asks token (Err fault) before after asks = record { told = λ old told. spent-asked token old after (asks.err old told) }

@@ -22,9 +22,11 @@ use Rattle.od_tree.specs.Taking.{is_discard}
 use Rattle.od_tree.specs.declared.step.LocalStep.{LocalStep}
 use Rattle.od_tree.specs.declared.step.LocalStep.TheVariants.{User, Op}
 use Rattle.od_tree.specs.declared.step.TreeOp.TheVariants as op
+use Rattle.od_sync.specs.Chains.{IsChained}
 use Rattle.od_sync.specs.Deltas.{heard_step, last_heard_after}
 use Rattle.od_sync.specs.Ends.{Counts, HasStopCause, end_of_stop}
 use Rattle.od_sync.specs.Rounds.{EndsWithUnserved, HasRunCause, Ran, RunsAll, RunsTo, end_of}
+use Rattle.od_sync.specs.Looks.{AreWhole}
 use Rattle.od_sync.specs.Scans.{IsLook}
 use Rattle.od_sync.specs.Serving.{Served, ServesAll}
 use Rattle.od_sync.specs.Syncing.{IsSyncStep}
@@ -162,8 +164,11 @@ syncs {drive} {more} {local} {part} {images} {added} before now result ran cause
   unsettled_is_unlike = λ is. ran.unsettled (ended-unsettled result is);
   makes_what_the_drive_had = ran.grew.had;
   within_three_looks = ran.within;
+  asks_with_the_last_token = ran.chained;
+  keeps_the_last_token = λ is. on-end result (IsChained (last_image images).token drive more (last_image (images ++ added)).token) is ran.chained_on;
   settled_looks = λ is. ran.found_same (ended-settled result is);
   unsettled_looks = λ is. ran.found_unlike (ended-unsettled result is);
+  scans_are_whole = λ is. on-end result (AreWhole local part) is ran.whole;
   ends_with_a_look = λ is. on-end result (AllByRecursion IsLook (since_listed (local ++ part))) is ran.looks;
   settled_after_a_look = λ is. ran.looked (ended-settled result is);
   unsettled_after_three = λ is. ran.looked_by (ended-unsettled result is);

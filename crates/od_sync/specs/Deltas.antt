@@ -11,6 +11,7 @@ use Rattle.gd_item.specs.declared.step.Step.{Step}
 use Rattle.gd_item.specs.declared.step.Step.TheVariants.{Ask, Event}
 use Rattle.gd_item.specs.declared.step.Who.TheVariants.{Own, Other}
 use Rattle.od_transfer.specs.Asking.{OwnAre, RoseBy, is_last_link}
+use Rattle.od_sync.specs.Chains.{Chained}
 use Rattle.od_sync.specs.declared.delta.DeltaFault.{DeltaFault}
 use Rattle.od_sync.specs.declared.delta.DeltaFault.TheVariants.{LinkFault, Unserved}
 
@@ -137,6 +138,7 @@ pub record AskedDelta (token : Option (List ℕ)) (old : List Step) (after : Opt
   pub such : OwnAre (IsAskedWith token) part
   pub sent : count_by is_own_delta part ≤ 3
   pub answered : count_by is_answered_delta part ≤ 1
+  pub chained : Chained token old part
   pub grown : after ≡ Some (old ++ part)
 
 pub record AsksDelta (token : Option (List ℕ)) (before after : Option (List Step)) : Type 0 where

@@ -154,8 +154,8 @@ abbrev pub placed_files : List LocalStep → List (List (List ℕ) × List ℕ)
 placed_files [] = []
 placed_files (step ∷ steps) = placed_in step ++ placed_files steps
 
-abbrev pub row_of : List (List ℕ) × List ℕ → BaseRow
-row_of file = record { path = file.0; what = agreed.File (digest_record file.1); flight = None }
+abbrev pub row_of_file : List (List ℕ) × List ℕ → BaseRow
+row_of_file file = record { path = file.0; what = agreed.File (digest_record file.1); flight = None }
 
 -- these files were placed and no others; these rows are those of what was placed; and an image has got those rows
 pub record PlacedThese (files : List (List (List ℕ) × List ℕ)) (old : List LocalStep) (after : Option (List LocalStep)) : Type 0 where
@@ -169,7 +169,7 @@ pub record PlacesThese (files : List (List (List ℕ) × List ℕ)) (before afte
 pub record RowsGiven (rows : List BaseRow) (old : List LocalStep) (after : Option (List LocalStep)) : Type 0 where
   pub part : List LocalStep
   pub grown : after ≡ Some (old ++ part)
-  pub rows_are : rows ≡ map row_of (placed_files part)
+  pub rows_are : rows ≡ map row_of_file (placed_files part)
 
 pub record GivesRows (rows : List BaseRow) (before after : Option (List LocalStep)) : Type 0 where
   pub told : (old : List LocalStep) → before ≡ Some old → RowsGiven rows old after
@@ -177,7 +177,7 @@ pub record GivesRows (rows : List BaseRow) (before after : Option (List LocalSte
 pub record RowsPut (image next : Image) (old : List LocalStep) (after : Option (List LocalStep)) : Type 0 where
   pub part : List LocalStep
   pub grown : after ≡ Some (old ++ part)
-  pub next_is : next ≡ record image { rows = put_all by_path (map row_of (placed_files part)) image.rows }
+  pub next_is : next ≡ record image { rows = put_all by_path (map row_of_file (placed_files part)) image.rows }
 
 pub record PutsRows (image next : Image) (before after : Option (List LocalStep)) : Type 0 where
   pub told : (old : List LocalStep) → before ≡ Some old → RowsPut image next old after

@@ -1,3 +1,4 @@
+pub mod Chains
 pub mod Deltas
 pub mod Pulls
 pub mod Scans

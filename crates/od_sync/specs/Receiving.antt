@@ -15,6 +15,7 @@ use Rattle.od_mirror.specs.Pulled.{paths_of}
 use Rattle.od_transfer.specs.Asking.{OwnAre}
 use Rattle.od_transfer.specs.Undisturbed.{is_servable}
 use Rattle.od_sync.specs.Agreeing.{agreement}
+use Rattle.od_sync.specs.Chains.{IsChained}
 use Rattle.od_sync.specs.Deltas.{IsSpent, is_own_delta}
 use Rattle.od_sync.specs.PullChanges.{ItemsRise}
 use Rattle.od_sync.specs.declared.looking.Sides.{Sides}
@@ -42,6 +43,7 @@ pub record Got (image : Image) (received : Received) (drive : List Step) (images
   pub spent : List Step
   pub such : OwnAre (IsSpent (Delta image.token)) spent
   pub sent : count_by is_own_delta spent ≤ 2
+  pub chained : IsChained image.token drive (spent ++ Ask Own (Delta image.token) true true ∷ []) received.image.token
   pub drive_grown : drive_after ≡ Some ((drive ++ spent) ++ Ask Own (Delta image.token) true true ∷ [])
   pub images_grown : images_after ≡ Some (images ++ received.image ∷ [])
   pub sound : IsSound image drive → IsSound received.image (drive ++ spent)

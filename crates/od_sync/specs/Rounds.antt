@@ -24,12 +24,13 @@ use Rattle.od_tree.specs.Undisturbed as tree_alone
 use Rattle.od_tree.specs.Undisturbed.{NoUser}
 use Rattle.od_tree.specs.declared.step.LocalStep.{LocalStep}
 use Rattle.od_keeper.specs.Undisturbed as keeper_alone
+use Rattle.od_sync.specs.Chains.{Chained, IsChained}
 use Rattle.od_sync.specs.Comparing.{IsKindAccepted}
 use Rattle.od_sync.specs.Deltas.{last_heard_after}
 use Rattle.od_sync.specs.Ends.{Counts, HasStopCause, end_of_stop}
 use Rattle.od_sync.specs.Planning.{planned_fetches, planned_folders}
 use Rattle.od_sync.specs.Syncing.{Did, IsSyncRequest, IsSyncStep}
-use Rattle.od_sync.specs.Looks.{AllUnlike, IsWithin, LastSame, Looked, found_until}
+use Rattle.od_sync.specs.Looks.{AllUnlike, AreWhole, IsWithin, LastSame, Looked, found_until}
 use Rattle.od_sync.specs.Scans.{IsLook}
 use Rattle.od_sync.specs.Syncs.{AreSame, EndedBad, IsFromDrive, since_listed}
 use Rattle.od_sync.specs.declared.ends.SyncEnd.{SyncEnd}
@@ -80,8 +81,11 @@ pub record Rounded (faults_before faults_now : ℕ) (drive more drive_now : List
     (result : Result (Option Image) SyncStop) : Type 0 where
   pub grew : Grew drive more drive_now local part local_now images added images_now
   pub within : IsWithin 1 more part
+  pub chained : Chained (last_image images).token drive more
+  pub chained_on : OnOk result (IsChained (last_image images).token drive more (last_image images_now).token)
   pub looked : OnOk result (Looked 1 more part)
   pub begins : OnOk result (found_until local part ≡ [])
+  pub whole : OnOk result (AreWhole local part)
   pub settled : result ≡ Ok None → MirrorsThen drive drive_now local_now images
   pub looks : result ≡ Ok None → AllByRecursion IsLook (since_listed local_now)
   pub found_same : result ≡ Ok None → IsSound (last_image images) drive → LastSame drive more local part
@@ -117,7 +121,10 @@ pub record Ran (rounds faults_before faults_now : ℕ) (drive more drive_now : L
     (result : Result Bool SyncStop) : Type 0 where
   pub grew : Grew drive more drive_now local part local_now images added images_now
   pub within : IsWithin rounds more part
+  pub chained : Chained (last_image images).token drive more
+  pub chained_on : OnOk result (IsChained (last_image images).token drive more (last_image images_now).token)
   pub begins : OnOk result (found_until local part ≡ [])
+  pub whole : OnOk result (AreWhole local part)
   pub looked : result ≡ Ok true → Looked 1 more part
   pub looked_by : result ≡ Ok false → Looked rounds more part
   pub settled : result ≡ Ok true → MirrorsThen drive drive_now local_now images

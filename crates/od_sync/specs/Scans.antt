@@ -29,14 +29,14 @@ is_root_listing (Op (op.List at)) = is_path [] at
 is_root_listing (Op call) = false
 
 -- the log grows by such steps, of which so many at most list the root
-pub record Looked (listings : ℕ) (old : List LocalStep) (after : Option (List LocalStep)) : Type 0 where
+pub record GrownByLooks (listings : ℕ) (old : List LocalStep) (after : Option (List LocalStep)) : Type 0 where
   pub part : List LocalStep
   pub looks : AllByRecursion IsLook part
   pub listed : count_by is_root_listing part ≤ listings
   pub grown : after ≡ Some (old ++ part)
 
-pub record Looks (listings : ℕ) (before after : Option (List LocalStep)) : Type 0 where
-  pub told : (old : List LocalStep) → before ≡ Some old → Looked listings old after
+pub record GrowsByLooks (listings : ℕ) (before after : Option (List LocalStep)) : Type 0 where
+  pub told : (old : List LocalStep) → before ≡ Some old → GrownByLooks listings old after
 
 -- the count of failures never falls, and rises where the folder fails
 pub record HasFolderCause (before now : ℕ) {T : Type 0} (result : Result T FolderFault) : Type 0 where

@@ -28,6 +28,7 @@ use Rattle.od_tree.specs.declared.step.LocalStep.{LocalStep}
 use Rattle.od_tree.specs.declared.step.LocalStep.TheVariants.{User, Op}
 use Rattle.od_tree.specs.declared.step.TreeOp.TheVariants as op
 use Rattle.od_sync.specs.Agreeing.{agreement}
+use Rattle.od_sync.specs.Chains.{IsChained}
 use Rattle.od_sync.specs.Comparing.{scanned}
 use Rattle.od_sync.specs.Deltas.{is_delta, is_own_delta, IsSpent}
 use Rattle.od_sync.specs.Doing.{AreAcceptedFetches, CanMake, CanPlace, IsFileOf, folder_spot, file_spot}
@@ -70,6 +71,7 @@ pub record Met (image : Image) (sides : Sides) (drive : List Step) (local : List
   pub spent : List Step
   pub such : OwnAre (IsSpent (Delta image.token)) spent
   pub sent : count_by is_own_delta spent ≤ 2
+  pub chained : IsChained image.token drive (spent ++ Ask Own (Delta image.token) true true ∷ []) sides.image.token
   pub drive_grown : drive_after ≡ Some ((drive ++ spent) ++ Ask Own (Delta image.token) true true ∷ [])
   pub edits : List UserEdit
   pub rest : List LocalStep

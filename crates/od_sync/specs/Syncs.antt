@@ -24,10 +24,11 @@ use Rattle.od_tree.specs.Undisturbed.{NoUser}
 use Rattle.od_tree.specs.declared.step.LocalStep.{LocalStep}
 use Rattle.od_tree.specs.declared.step.LocalStep.TheVariants.{User, Op}
 use Rattle.od_tree.specs.declared.step.TreeOp.TheVariants as op
+use Rattle.od_sync.specs.Chains.{Chained, IsChained}
 use Rattle.od_sync.specs.Comparing.{scanned}
 use Rattle.od_sync.specs.Deltas.{is_own_delta, last_heard_after}
 use Rattle.od_sync.specs.Ends.{Counts}
-use Rattle.od_sync.specs.Looks.{AllUnlike, IsWithin, LastSame, Looked}
+use Rattle.od_sync.specs.Looks.{AllUnlike, AreWhole, IsWithin, LastSame, Looked}
 use Rattle.od_sync.specs.Pulls.{PullsBad}
 use Rattle.od_sync.specs.Scans.{IsLook, is_root_listing}
 use Rattle.od_sync.specs.Syncing.{IsSyncRequest, IsSyncStep}
@@ -105,8 +106,11 @@ pub record Syncs (before now : Counts) (drive more : List Step) (local part : Li
       → AreSame (local ++ part) (drive ++ more) → ⊥
   pub makes_what_the_drive_had : IsSound (last_image images) drive → AllByRecursion (IsFromDrive drive more) part
   pub within_three_looks : IsWithin 3 more part
+  pub asks_with_the_last_token : Chained (last_image images).token drive more
+  pub keeps_the_last_token : (end ≡ Settled) ⊎ (end ≡ Unsettled) → IsChained (last_image images).token drive more (last_image (images ++ added)).token
   pub settled_looks : end ≡ Settled → IsSound (last_image images) drive → LastSame drive more local part
   pub unsettled_looks : end ≡ Unsettled → IsSound (last_image images) drive → AllUnlike 3 drive more local part
+  pub scans_are_whole : (end ≡ Settled) ⊎ (end ≡ Unsettled) → AreWhole local part
   pub ends_with_a_look : (end ≡ Settled) ⊎ (end ≡ Unsettled) → AllByRecursion IsLook (since_listed (local ++ part))
   pub settled_after_a_look : end ≡ Settled → Looked 1 more part
   pub unsettled_after_three : end ≡ Unsettled → Looked 3 more part

@@ -14,7 +14,7 @@ ghost use Rattle.od_sync.specs.Deltas.{AsksDelta, EndsUnserved};
 ghost use Rattle.od_sync.specs.Ends.{HasStopCause, counts};
 ghost use Rattle.od_sync.specs.Receiving.{AreSides, Keeps};
 ghost use Rattle.od_sync.specs.Pulls.{StopsBad};
-ghost use Rattle.od_sync.specs.Scans.{Looks};
+ghost use Rattle.od_sync.specs.Scans.{GrowsByLooks};
 ghost use Rattle.od_sync.specs.Serving.{Leaves, Serves};
 ghost use Rattle.od_sync.specs.Syncing.{Goes, Meets};
 
@@ -65,7 +65,7 @@ fn commit_agreement<K: Keeper>(
     })
 }
 
-/// Looks at both sides: pulls the drive and commits what was pulled, scans the folder, and commits what both agree on.
+/// GrowsByLooks at both sides: pulls the drive and commits what was pulled, scans the folder, and commits what both agree on.
 pub fn look<R: Remote, T: Tree, K: Keeper>(
     alloc: Global,
     remote: &mut R,
@@ -75,7 +75,7 @@ pub fn look<R: Remote, T: Tree, K: Keeper>(
 ) -> Result<Sides, SyncStop>
     ensures goes { Goes (λ drive. IsSound image drive) image (R.log remote.old) (R.log remote.new) (T.log tree.old) (T.log tree.new) (K.images keeper.old) (K.images keeper.new) }
     ensures meets { IfOk result (λ sides. Meets image sides (R.log remote.old) (R.log remote.new) (T.log tree.old) (T.log tree.new) (K.images keeper.old) (K.images keeper.new)) }
-    ensures looks { Looks 1 (T.log tree.old) (T.log tree.new) }
+    ensures looks { GrowsByLooks 1 (T.log tree.old) (T.log tree.new) }
     ensures asks { AsksDelta image.token (R.log remote.old) (R.log remote.new) }
     ensures below { IfOk result (λ sides. All (λ (entry : List (List ℕ) × Item). 0 < length entry.0) sides.remote) }
     ensures bad { (n : ℕ) → IsErrOf result (SyncStop.BadPages (item_id n)) → StopsBad image.items image.token (R.log remote.old) (R.log remote.new) n }

@@ -10,7 +10,7 @@ ghost use Rattle.od_sync.specs.Doing.{IsFetchOf, IsFolderOf, Makes};
 ghost use Rattle.od_sync.specs.Ends.{HasStopCause, counts};
 ghost use Rattle.od_sync.specs.Planning.{planned_fetches, planned_folders};
 ghost use Rattle.od_sync.specs.Rounds.{Acts, AllAlone, AreKindsAccepted, HasRunCause, Rounds, Runs};
-ghost use Rattle.od_sync.specs.Serving.{Leaves, Serves, StartsWith};
+ghost use Rattle.od_sync.specs.Serving.{KeepsToken, Leaves, Serves, StartsWith};
 ghost use Rattle.od_sync.specs.Syncing.{Goes, IsDoStop};
 
 use crate::comparing::is_same;
@@ -45,6 +45,7 @@ fn act<R: Carrier, T: Tree, K: Keeper>(
     ensures steps { Makes (IsFolderOf (planned_folders sides.image.rows sides.local sides.remote)) (IsFetchOf (planned_fetches sides.image.rows sides.local sides.remote)) (T.log tree.old) (T.log tree.new) }
     ensures stops { IfErr result IsDoStop }
     ensures requests { Grows IsTransfer (R.log remote.old) (R.log remote.new) }
+    ensures tokens { KeepsToken sides.image (K.images keeper.old) (K.images keeper.new) }
     ensures serves { Serves sides.image (R.log remote.old) (R.log remote.new) (K.images keeper.old) (K.images keeper.new) }
     ensures last { IfOk result (λ next. Leaves sides.image next (K.images keeper.old) (K.images keeper.new)) }
     ensures cause { HasStopCause

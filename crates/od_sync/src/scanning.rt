@@ -2,7 +2,7 @@ ghost use Rattle.std.specs.Prelude.{◌≡◌, ◌<◌, ◌++◌, ◌∷◌, [],
 ghost use Rattle.std.specs.List.{All};
 ghost use Rattle.od_tree.specs.Undisturbed.{Undisturbed};
 ghost use Rattle.od_tree.specs.declared.step.TreeOp.TheVariants as op;
-ghost use Rattle.od_sync.specs.Scans.{Looks, Finds, HasFolderCause};
+ghost use Rattle.od_sync.specs.Scans.{GrowsByLooks, Finds, HasFolderCause};
 ghost use Rattle.od_sync.specs.Findings.{digest_at, listing_at, found_file};
 ghost use Rattle.od_sync.specs.Visits.{Shows, Sees, Visits, Begins, turns, pushed};
 
@@ -72,7 +72,7 @@ fn look_at_file<T: Tree>(
     at: &Path,
 ) -> Result<Option<Digest>, FolderFault>
     requires { 0 < length at.now }
-    ensures log { Looks 0 (T.log tree.old) (T.log tree.new) }
+    ensures log { GrowsByLooks 0 (T.log tree.old) (T.log tree.new) }
     ensures cause { HasFolderCause (T.faults tree.old) (T.faults tree.new) result }
     ensures undisturbed { Undisturbed (T.undisturbed tree.old) (T.undisturbed tree.new) (T.faults tree.old) (T.faults tree.new) (T.log tree.old) (T.log tree.new) }
     ensures found { IfOk result (λ digest. Shows (op.Read at.now) (digest_at at.now) digest (T.log tree.old) (T.log tree.new)) }
@@ -93,8 +93,8 @@ fn look_at_folder<T: Tree>(
     alloc: Global,
     at: &Path,
 ) -> Result<Option<List<Entry>>, FolderFault>
-    ensures log { Looks 1 (T.log tree.old) (T.log tree.new) }
-    ensures below { 0 < length at.now → Looks 0 (T.log tree.old) (T.log tree.new) }
+    ensures log { GrowsByLooks 1 (T.log tree.old) (T.log tree.new) }
+    ensures below { 0 < length at.now → GrowsByLooks 0 (T.log tree.old) (T.log tree.new) }
     ensures cause { HasFolderCause (T.faults tree.old) (T.faults tree.new) result }
     ensures undisturbed { Undisturbed (T.undisturbed tree.old) (T.undisturbed tree.new) (T.faults tree.old) (T.faults tree.new) (T.log tree.old) (T.log tree.new) }
     ensures found { IfOk result (λ entries. Shows (op.List at.now) (listing_at at.now) entries (T.log tree.old) (T.log tree.new)) }
@@ -149,7 +149,7 @@ fn visit_file<T: Tree>(
     found: &mut Vec<(Path, Node)>,
 ) -> Result<(), FolderFault>
     requires { 0 < length at }
-    ensures log { Looks 0 (T.log tree.old) (T.log tree.new) }
+    ensures log { GrowsByLooks 0 (T.log tree.old) (T.log tree.new) }
     ensures cause { HasFolderCause (T.faults tree.old) (T.faults tree.new) result }
     ensures undisturbed { Undisturbed (T.undisturbed tree.old) (T.undisturbed tree.new) (T.faults tree.old) (T.faults tree.new) (T.log tree.old) (T.log tree.new) }
     ensures found { OnOk result (Sees found.old.items found.new.items (λ spots. found.new.items ≡ found.old.items ++ found_file at (digest_at at spots)) (T.log tree.old) (T.log tree.new)) }
@@ -173,7 +173,7 @@ fn visit_folder<T: Tree>(
     found: &mut Vec<(Path, Node)>,
 ) -> Result<(), FolderFault>
     requires { 0 < length at }
-    ensures log { Looks 0 (T.log tree.old) (T.log tree.new) }
+    ensures log { GrowsByLooks 0 (T.log tree.old) (T.log tree.new) }
     ensures cause { HasFolderCause (T.faults tree.old) (T.faults tree.new) result }
     ensures undisturbed { Undisturbed (T.undisturbed tree.old) (T.undisturbed tree.new) (T.faults tree.old) (T.faults tree.new) (T.log tree.old) (T.log tree.new) }
     ensures found { OnOk result (Sees found.old.items found.new.items (Visits at true found.old.items found.new.items (turns waiting.old.items) (turns waiting.new.items)) (T.log tree.old) (T.log tree.new)) }
@@ -196,7 +196,7 @@ fn visit<T: Tree>(
     waiting: &mut Vec<Waiting>,
     found: &mut Vec<(Path, Node)>,
 ) -> Result<(), FolderFault>
-    ensures log { Looks 0 (T.log tree.old) (T.log tree.new) }
+    ensures log { GrowsByLooks 0 (T.log tree.old) (T.log tree.new) }
     ensures cause { HasFolderCause (T.faults tree.old) (T.faults tree.new) result }
     ensures undisturbed { Undisturbed (T.undisturbed tree.old) (T.undisturbed tree.new) (T.faults tree.old) (T.faults tree.new) (T.log tree.old) (T.log tree.new) }
     ensures found { OnOk result (Sees found.old.items found.new.items (Visits next.path next.folder found.old.items found.new.items (turns waiting.old.items) (turns waiting.new.items)) (T.log tree.old) (T.log tree.new)) }
@@ -215,7 +215,7 @@ fn begin<T: Tree>(
     alloc: Global,
     waiting: &mut Vec<Waiting>,
 ) -> Result<(), FolderFault>
-    ensures log { Looks 1 (T.log tree.old) (T.log tree.new) }
+    ensures log { GrowsByLooks 1 (T.log tree.old) (T.log tree.new) }
     ensures cause { HasFolderCause (T.faults tree.old) (T.faults tree.new) result }
     ensures undisturbed { Undisturbed (T.undisturbed tree.old) (T.undisturbed tree.new) (T.faults tree.old) (T.faults tree.new) (T.log tree.old) (T.log tree.new) }
     ensures found { OnOk result (Begins (turns waiting.old.items) (turns waiting.new.items) (T.log tree.old) (T.log tree.new)) }
@@ -233,7 +233,7 @@ fn begin<T: Tree>(
 
 /// All entries in order of path: a folder is listed, and a file read, when its turn comes. What is gone then is left out.
 pub fn scan<T: Tree>(tree: &mut T, alloc: Global) -> Result<List<(Path, Node)>, FolderFault>
-    ensures log { Looks 1 (T.log tree.old) (T.log tree.new) }
+    ensures log { GrowsByLooks 1 (T.log tree.old) (T.log tree.new) }
     ensures cause { HasFolderCause (T.faults tree.old) (T.faults tree.new) result }
     ensures undisturbed { Undisturbed (T.undisturbed tree.old) (T.undisturbed tree.new) (T.faults tree.old) (T.faults tree.new) (T.log tree.old) (T.log tree.new) }
     ensures found { IfOk result (λ found. Finds (T.log tree.old) (T.log tree.new) found) }

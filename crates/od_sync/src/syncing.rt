@@ -52,7 +52,7 @@ fn end_of(settled: Result<bool, SyncStop>) -> SyncEnd
 }
 
 /// Makes the local folder the same as the drive, as far as that can be done by making folders and placing files at free
-/// paths: up to three rounds, each of which looks at both sides and then does what is wanted.
+/// paths: up to three rounds, each of which looks at both sides and, unless it is the third, then does what is wanted.
 pub fn sync_now<R: Carrier, T: Tree, K: Keeper>(
     alloc: Global,
     remote: &mut R,

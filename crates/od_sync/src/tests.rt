@@ -228,8 +228,7 @@ impl Carrier for OneFile {
     }
 }
 
-/// A look at an empty folder and a drive with a file agrees on nothing, the plan is to fetch it, and once that is done there is
-/// a row for it.
+/// A look at an empty folder and a drive with a file agrees on nothing, and the plan is to fetch the file.
 #[test]
 fn looked(rt: HostRuntime) -> Result<(), Fail> {
     let alloc = rt.alloc();

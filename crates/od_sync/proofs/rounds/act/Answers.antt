@@ -12,7 +12,7 @@ use Rattle.od_sync.specs.declared.planning.Fetching.{Fetching}
 use Rattle.od_sync.specs.declared.planning.Plan.{Plan}
 use Rattle.od_sync.specs.declared.scanning.Node.{Node}
 use Rattle.od_sync.proofs.Going.{goes-acted, goes-none}
-use Rattle.od_sync.proofs.KeptImages.{grows-none}
+use Rattle.od_sync.proofs.KeptImages.{grows-none, kept-none}
 use Rattle.od_sync.proofs.Made.{makes-none}
 use Rattle.od_sync.proofs.PlannedKinds.{plan-fetches-below, plan-folders-below}
 use Rattle.od_sync.proofs.ServedTokens.{serves-done, serves-none}
@@ -78,3 +78,6 @@ returns-clause-serves g c =
 
 pub returns-in-Err-clause-requests : goal.returns-in-Err-clause-requests
 returns-in-Err-clause-requests g c = grows-none IsTransfer (g.R.Remote.log c.args.remote.now)
+
+pub returns-in-Err-clause-tokens : goal.returns-in-Err-clause-tokens
+returns-in-Err-clause-tokens g c = kept-none c.args.sides.image (g.K.Keeper.images c.args.keeper.now)

@@ -12,7 +12,7 @@ returns-then-is_settled-clause-rounds g c =
 pub returns-in-Ok-act-clause-rounds : goal.returns-in-Ok-act-clause-rounds
 returns-in-Ok-act-clause-rounds g c =
     rounds-acted (g.R.Remote.faults c.args.remote.now) (g.R.Remote.faults c.look.new.remote) (g.R.Remote.faults c.act.new.remote) c.args.image c.in-Ok.sides c.in-Ok-act.next (g.R.Remote.log c.args.remote.now) (g.R.Remote.log c.look.new.remote) (g.R.Remote.log c.act.new.remote) (g.T.Tree.log c.args.tree.now) (g.T.Tree.log c.look.new.tree) (g.T.Tree.log c.act.new.tree)
-    (g.K.Keeper.images c.args.keeper.now) (g.K.Keeper.images c.look.new.keeper) (g.K.Keeper.images c.act.new.keeper) c.look.ensures.cause.link_later c.in-Ok.ensures.meets (sym c.is_settled.ensures ∙ c.if-is_settled.false) c.in-Ok-act.ensures.acts c.act.ensures.steps
+    (g.K.Keeper.images c.args.keeper.now) (g.K.Keeper.images c.look.new.keeper) (g.K.Keeper.images c.act.new.keeper) c.look.ensures.cause.link_later c.in-Ok.ensures.meets (sym c.is_settled.ensures ∙ c.if-is_settled.false) c.in-Ok-act.ensures.acts c.act.ensures.steps c.act.ensures.tokens
 
 pub returns-in-Err-act-clause-rounds : goal.returns-in-Err-act-clause-rounds
 returns-in-Err-act-clause-rounds g c =
