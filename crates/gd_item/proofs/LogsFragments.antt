@@ -1,18 +1,19 @@
 -- Fragments of large files: a refusal looks at the lengths of the byte lists alone.
-use Rattle.std.proofs.Common.{◌≡◌, ℕ, ◌+◌, ◌-◌, ◌%◌, false, not, ◌&&◌, ◌||◌, cond, nat_eq, nat_lt, nat_le, List, [], ◌∷◌, ◌++◌, length, codes, is_some, is_none, Option, Some, None, refl, ap, ◌∙◌, arith}
+use Rattle.std.proofs.Common.{◌≡◌, ℕ, ◌+◌, ◌-◌, ◌%◌, Bool, true, false, not, ◌&&◌, ◌||◌, cond, nat_eq, nat_lt, nat_le, List, [], ◌∷◌, ◌++◌, length, codes, is_some, is_none, Option, Some, None, refl, ap, ◌∙◌, arith}
 use Rattle.std.proofs.lemmas.List.{length-append}
 use Rattle.gd_names.specs.Causes.{first_cause}
 use Rattle.gd_names.specs.Names.{name_fault}
 use Rattle.gd_names.specs.declared.conflict.Conflict.{Conflict}
 use Rattle.gd_names.specs.declared.conflict.Conflict.TheVariants.{Fail, Replace}
-use Rattle.gd_item.specs.Answers.{answer, answer_of, answer_unless, reply_to, refused}
-use Rattle.gd_item.specs.DriveLogs.{other, put_at, opened_log, first_part, second_part, third_part, begun_log, two_parts_log, sent_log, status_of_reply}
+use Rattle.gd_item.specs.Answers.{answer, answer_of, answer_unless, reply_to, refused, shown}
+use Rattle.gd_item.specs.DriveLogs.{other, put_at, opened_log, first_part, second_part, third_part, begun_log, two_parts_log, sent_log}
 use Rattle.gd_item.specs.Ids.{item_id}
 use Rattle.gd_item.specs.Inventory.{Inventory, new_drive}
 use Rattle.gd_item.specs.Nodes.{is_folder}
 use Rattle.gd_item.specs.Refusals.{is_there, settled_in, is_refuse, is_met, is_too_long, settled_path, is_over_quota, made_items, live_named, put_refusal}
-use Rattle.gd_item.specs.Refused.{Refusal, refuse, refusal, or_else, by_session, by_store, at_target, last_refusal, whole_refusal}
-use Rattle.gd_item.specs.Sessions.{State, Session, new_state, held, held_bytes, is_other_total, session_fragment_fault, fragment_fault, session_at}
+use Rattle.gd_item.specs.Refused.{Refusal, refuse, refusal, or_else, by_session, by_store, at_target, last_refusal, commit_refusal}
+use Rattle.gd_item.specs.Replies.{status_of_reply}
+use Rattle.gd_item.specs.Sessions.{State, Session, new_state, held, held_bytes, is_last, is_other_total, session_fragment_fault, fragment_fault, session_at}
 use Rattle.gd_item.specs.Steps.{after_request, after_step, state_of}
 use Rattle.gd_item.specs.Targets.{place_of}
 use Rattle.gd_item.specs.Trees.{nodes_of}
@@ -38,12 +39,12 @@ fault_by whole first last total long before others kept =
     ∷ (nat_lt last first || nat_le total last || not (nat_eq (last - first + 1) long), session_fault.Form)
     ∷ (nat_le 62914560 long || nat_lt 67108864 total, session_fault.TooLarge)
     ∷ (not (nat_eq first before), session_fault.Range before)
-    ∷ (not (nat_eq (last + 1) total) && not (nat_eq (long % 327680) 0), session_fault.Multiple)
+    ∷ (not (is_last last total) && not (nat_eq (long % 327680) 0), session_fault.Multiple)
     ∷ (nat_lt 536870912 (kept + others + long), session_fault.Quota)
     ∷ [])
 
 fault-lengths : (state : State) (session : Session) (first last total : ℕ) (bytes : List ℕ) (long before others : ℕ) → length bytes ≡ long → length session.filled ≡ before
-    → held_bytes state.sessions ≡ others → session_fragment_fault state session first last total bytes ≡ fault_by session.total first last total long before others (held state).kept
+    → held_bytes state.sessions ≡ others → session_fragment_fault (held state).kept state.sessions session first last total bytes ≡ fault_by session.total first last total long before others (held state).kept
 fault-lengths state session first last total bytes long before others is_long is_before is_others =
     ap (λ n. fault_by session.total first last total n (length session.filled) (held_bytes state.sessions) (held state).kept) is_long
     ∙ ap (λ n. fault_by session.total first last total long n (held_bytes state.sessions) (held state).kept) is_before
@@ -65,10 +66,10 @@ under_by held parent name behaviour condition long =
 
 -- the refusal of a fragment of a session that lives
 refusal-fragment : (state : State) (session : Session) (number first last total : ℕ) (bytes : List ℕ) (fault : Option SessionFault) → session_at number state.sessions ≡ Some session
-    → session_fragment_fault state session first last total bytes ≡ fault
+    → session_fragment_fault (held state).kept state.sessions session first last total bytes ≡ fault
     → refusal state (Fragment number first last total bytes) ≡ or_else (by_session fault) (by_store (last_refusal state (Some session) last total bytes))
 refusal-fragment state session number first last total bytes fault found is =
-    ap (λ o. or_else (by_session (fragment_fault state o first last total bytes)) (by_store (last_refusal state o last total bytes))) found
+    ap (λ o. or_else (by_session (fragment_fault (held state).kept state.sessions o first last total bytes)) (by_store (last_refusal state o last total bytes))) found
     ∙ ap (λ f. or_else (by_session f) (by_store (last_refusal state (Some session) last total bytes))) is
 
 pub after-accepted : (state : State) (request : Request) → refusal state request ≡ None → after_step state (other request) ≡ after_request state Other request
@@ -77,18 +78,22 @@ after-accepted state request is = ap (λ o. cond (is_none o) (after_request stat
 after-refused : (state : State) (request : Request) (why : Refusal) → refusal state request ≡ Some why → after_step state (other request) ≡ state
 after-refused state request why is = ap (λ o. cond (is_none o) (after_request state Other request) state) is
 
-answer-accepted : (state : State) (size : ℕ) (request : Request) → refusal state request ≡ None → answer state size request ≡ reply_to state (after_request state Own request) size request
-answer-accepted state size request is = ap (λ o. answer_unless o state size request) is
+answer-accepted : (state : State) (size : ℕ) (request : Request) → refusal state request ≡ None → answer state size request ≡ shown state.plain (reply_to state (after_request state Own request) size request)
+answer-accepted state size request is = ap (λ o. shown state.plain (answer_unless o state size request)) is
+
+shown-refused : (plain : Bool) (why : Refusal) → shown plain (refused why) ≡ refused why
+shown-refused true why = refl
+shown-refused false why = refl
 
 pub answer-refused : (state : State) (size : ℕ) (request : Request) (why : Refusal) → refusal state request ≡ Some why → answer state size request ≡ refused why
-answer-refused state size request why is = ap (λ o. answer_unless o state size request) is
+answer-refused state size request why is = ap (λ o. shown state.plain (answer_unless o state size request)) is ∙ shown-refused state.plain why
 
 -- the session with these bytes, and the drive that has it alone
 abbrev filled_session : Option ℕ → List ℕ → Session
-filled_session total bytes = record { number = 1; place = Under (item_id 1) (codes "s"); behaviour = Fail; condition = Free; total = total; filled = bytes }
+filled_session total bytes = record { number = 1; place = Under (item_id 1) (codes "s"); behaviour = Fail; condition = Free; defer = false; total = total; filled = bytes }
 
 abbrev sending : Option ℕ → List ℕ → State
-sending total bytes = record { effects = []; sessions = filled_session total bytes ∷ []; openers = Other ∷ []; epoch = 1; floor = 0 }
+sending total bytes = record { effects = []; sessions = filled_session total bytes ∷ []; openers = Other ∷ []; epoch = 1; floor = 0; plain = false }
 
 opened-is : state_of opened_log ≡ sending None []
 opened-is = refl
@@ -139,7 +144,7 @@ again-is a b a_long b_long =
     ap (λ state. after_step state (other (second_part b))) (two-is a b a_long b_long)
     ∙ after-refused (sending (Some 655361) (a ++ b)) (second_part b) (refuse 416 InvalidRange) (again-refused a b a_long b_long)
 
-whole-accepted : (ab c : List ℕ) → length ab ≡ 655360 → length c ≡ 1 → whole_refusal (sending (Some 655361) ab) (filled_session (Some 655361) ab) c ≡ None
+whole-accepted : (ab c : List ℕ) → length ab ≡ 655360 → length c ≡ 1 → commit_refusal (sending (Some 655361) ab) (filled_session (Some 655361) ab) (ab ++ c) ≡ None
 whole-accepted ab c ab_long c_long =
     let long : length (ab ++ c) + (0 + length ab - length ab) ≡ 655361 = omega (arith, length-append ab c, ab_long, c_long) in
     ap (under_by new_drive 1 (codes "s") Fail Free) long

@@ -8,7 +8,7 @@ use Rattle.gd_item.specs.Versions.{put_by, accepted_after, accepted}
 use Rattle.gd_item.specs.declared.live.Version.{Version}
 use Rattle.gd_item.specs.declared.request.Request.{Request}
 use Rattle.gd_item.specs.declared.step.DriveEvent.{DriveEvent}
-use Rattle.gd_item.specs.declared.step.DriveEvent.TheVariants.{Expire, Restore, EndSession}
+use Rattle.gd_item.specs.declared.step.DriveEvent.TheVariants.{Expire, Restore, EndSession, Plain}
 use Rattle.gd_item.specs.declared.step.Step.{Step}
 use Rattle.gd_item.specs.declared.step.Step.TheVariants.{Ask, Event}
 use Rattle.gd_item.specs.declared.step.Who.{Who}
@@ -23,12 +23,14 @@ pub record IsLater (old new : State) : Type 0 where
   pub effects : (more : List Effect) × (new.effects ≡ old.effects ++ more)
   pub epoch : old.epoch ≤ 2 ^ 64 - 1 → (old.epoch ≤ new.epoch) × (new.epoch ≤ 2 ^ 64 - 1)
   pub floor : old.floor ≤ new.floor
+  pub plain : old.plain ≡ true → new.plain ≡ true
 
 later-same : (state : State) → IsLater state state
 later-same state = record {
   effects = ([], sym (append-nil state.effects));
   epoch = λ low. (omega arith, low);
   floor = omega arith;
+  plain = λ is. is;
 }
 
 later-request : (state : State) (who : Who) (request : Request) → IsLater state (after_request state who request)
@@ -36,6 +38,7 @@ later-request state who request = record {
   effects = (effects_of state request, refl);
   epoch = λ low. (omega arith, low);
   floor = omega arith;
+  plain = λ is. is;
 }
 
 later-event : (state : State) (event : DriveEvent) → IsLater state (after_event state event)
@@ -43,16 +46,25 @@ later-event state (Expire number) = record {
   effects = ([], sym (append-nil state.effects));
   epoch = λ low. (omega arith, low);
   floor = omega arith;
+  plain = λ is. is;
 }
 later-event state Restore = record {
   effects = ([], sym (append-nil state.effects));
   epoch = λ low. (omega (arith, low), omega arith);
   floor = omega arith;
+  plain = λ is. is;
 }
 later-event state (EndSession session) = record {
   effects = ([], sym (append-nil state.effects));
   epoch = λ low. (omega arith, low);
   floor = omega arith;
+  plain = λ is. is;
+}
+later-event state Plain = record {
+  effects = ([], sym (append-nil state.effects));
+  epoch = λ low. (omega arith, low);
+  floor = omega arith;
+  plain = λ is. refl;
 }
 
 later-if : (state : State) (who : Who) (request : Request) (accepted : Bool) → IsLater state (cond accepted (after_request state who request) state)
@@ -71,6 +83,7 @@ later-then a b c first second = record {
   );
   epoch = λ low. let ab = first.epoch low in let bc = second.epoch ab.1 in (omega (arith, ab.0, bc.0), bc.1);
   floor = omega (arith, first.floor, second.floor);
+  plain = λ is. second.plain (first.plain is);
 }
 
 pub later-steps : (state : State) (steps : List Step) → IsLater state (after_steps state steps)
@@ -94,6 +107,9 @@ epoch-log log more = ((later-log log more).epoch ((later-steps new_state log).ep
 
 pub floor-log : (log more : List Step) → (state_of log).floor ≤ (state_of (log ++ more)).floor
 floor-log log more = (later-log log more).floor
+
+pub plain-log : (log more : List Step) → (state_of log).plain ≡ true → (state_of (log ++ more)).plain ≡ true
+plain-log log more = (later-log log more).plain
 
 -- the versions that more effects put come after those of before
 accepted-append : (held : Inventory) (effects more : List Effect) → accepted_after held (effects ++ more) ≡ accepted_after held effects ++ accepted_after (after_all held effects) more

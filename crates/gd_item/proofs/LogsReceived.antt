@@ -8,7 +8,7 @@ use Rattle.std.proofs.lemmas.List.Sums.{sum_by-append}
 use Rattle.gd_names.specs.declared.conflict.Conflict.{Conflict}
 use Rattle.gd_item.specs.Completions.{bytes_for, received_at, received_after, received, bytes_in}
 use Rattle.gd_item.specs.Inventory.{Effect, MadeFolder, PutNew, PutOver, Moved, Removed, Inventory, new_drive, after, after_all, inventory}
-use Rattle.gd_item.specs.Sessions.{State, Session, new_state, held, session_at, without_session, with_fragment}
+use Rattle.gd_item.specs.Sessions.{State, Session, new_state, held, session_at, without_session, with_fragment, is_completed}
 use Rattle.gd_item.specs.Steps.{opened, sessions_of, openers_of, after_request, is_accepted, after_step, after_steps, state_of, held_by, accepted_by}
 use Rattle.gd_item.specs.Targets.{place_of}
 use Rattle.gd_item.specs.Versions.{put_by, accepted_after, accepted}
@@ -16,8 +16,8 @@ use Rattle.gd_item.specs.declared.condition.Condition.{Condition}
 use Rattle.gd_item.specs.declared.live.Place.{Place}
 use Rattle.gd_item.specs.declared.live.Version.{Version}
 use Rattle.gd_item.specs.declared.request.Request.{Request}
-use Rattle.gd_item.specs.declared.request.Request.TheVariants.{Get, Children, MakeFolder, Put, Patch, Delete, Content, Download, OpenSession, Fragment, SessionStatus, CancelSession, Delta}
-use Rattle.gd_item.specs.declared.step.DriveEvent.TheVariants.{Expire, Restore, EndSession}
+use Rattle.gd_item.specs.declared.request.Request.TheVariants.{Get, Children, MakeFolder, Put, Patch, Delete, Content, Download, OpenSession, Fragment, SessionStatus, CancelSession, Finish, Delta}
+use Rattle.gd_item.specs.declared.step.DriveEvent.TheVariants.{Expire, Restore, EndSession, Plain}
 use Rattle.gd_item.specs.declared.step.Step.{Step}
 use Rattle.gd_item.specs.declared.step.Step.TheVariants.{Ask, Event}
 use Rattle.gd_item.specs.declared.step.Who.{Who}
@@ -99,11 +99,11 @@ after-last sent true number total bytes sessions all = left-all sent number byte
 after-last sent false number total bytes sessions all = grown-all sent number total bytes sessions all
 
 -- a session that is opened has sent nothing
-after-opening : (sent : ℕ → List ℕ) (number : ℕ) (place : Option Place) (behaviour : Conflict) (condition : Condition) (sessions : List Session) → sent number ≡ [] → All (HasSent sent) sessions
-    → All (HasSent (λ n. sent n ++ [])) (opened number place behaviour condition sessions)
-after-opening sent number None behaviour condition sessions new all = all-same sent (λ n. []) sessions (λ n. refl) all
-after-opening sent number (Some place) behaviour condition sessions new all =
-    All-push (HasSent (λ n. sent n ++ [])) sessions (record { number = number; place = place; behaviour = behaviour; condition = condition; total = None; filled = [] })
+after-opening : (sent : ℕ → List ℕ) (number : ℕ) (place : Option Place) (behaviour : Conflict) (condition : Condition) (defer : Bool) (sessions : List Session) → sent number ≡ [] → All (HasSent sent) sessions
+    → All (HasSent (λ n. sent n ++ [])) (opened number place behaviour condition defer sessions)
+after-opening sent number None behaviour condition defer sessions new all = all-same sent (λ n. []) sessions (λ n. refl) all
+after-opening sent number (Some place) behaviour condition defer sessions new all =
+    All-push (HasSent (λ n. sent n ++ [])) sessions (record { number = number; place = place; behaviour = behaviour; condition = condition; defer = defer; total = None; filled = [] })
     (all-same sent (λ n. []) sessions (λ n. refl) all) (sym new ∙ sym (append-nil (sent number)))
 
 filled-request : (sent : ℕ → List ℕ) (state : State) (request : Request) → sent (length state.openers + 1) ≡ [] → All (HasSent sent) state.sessions
@@ -116,11 +116,13 @@ filled-request sent state (Patch at name parent condition) new all = all-same se
 filled-request sent state (Delete at condition) new all = all-same sent (λ n. []) state.sessions (λ n. refl) all
 filled-request sent state (Content at) new all = all-same sent (λ n. []) state.sessions (λ n. refl) all
 filled-request sent state (Download id version) new all = all-same sent (λ n. []) state.sessions (λ n. refl) all
-filled-request sent state (OpenSession at name behaviour condition) new all =
-    after-opening sent (length state.openers + 1) (place_of (held state) at) behaviour condition state.sessions new all
-filled-request sent state (Fragment session first last total bytes) new all = after-last sent (nat_eq (last + 1) total) session total bytes state.sessions all
+filled-request sent state (OpenSession at name behaviour condition defer) new all =
+    after-opening sent (length state.openers + 1) (place_of (held state) at) behaviour condition defer state.sessions new all
+filled-request sent state (Fragment session first last total bytes) new all = after-last sent (is_completed (session_at session state.sessions) last total) session total bytes state.sessions all
 filled-request sent state (SessionStatus session) new all = all-same sent (λ n. []) state.sessions (λ n. refl) all
 filled-request sent state (CancelSession session) new all =
+    all-same sent (λ n. []) (without_session session state.sessions) (λ n. refl) (All-filter (λ (s : Session). not (nat_eq s.number session)) (HasSent sent) state.sessions all)
+filled-request sent state (Finish session) new all =
     all-same sent (λ n. []) (without_session session state.sessions) (λ n. refl) (All-filter (λ (s : Session). not (nat_eq s.number session)) (HasSent sent) state.sessions all)
 filled-request sent state (Delta token) new all = all-same sent (λ n. []) state.sessions (λ n. refl) all
 
@@ -135,12 +137,13 @@ fresh-request state who (Patch at name parent condition) served number numbered 
 fresh-request state who (Delete at condition) served number numbered accepted above = (above, refl)
 fresh-request state who (Content at) served number numbered accepted above = (above, refl)
 fresh-request state who (Download id version) served number numbered accepted above = (above, refl)
-fresh-request state who (OpenSession at name behaviour condition) served number numbered accepted above = (omega (arith, above, length_push state.openers who), refl)
+fresh-request state who (OpenSession at name behaviour condition defer) served number numbered accepted above = (omega (arith, above, length_push state.openers who), refl)
 fresh-request state who (Fragment session first last total bytes) served number numbered accepted above =
     let low : session ≤ length state.openers = low-if-accepted state session first last total bytes served numbered accepted in
     (above, ap (λ b. cond b bytes []) (ne_eqb session number (λ e. omega (arith, e, low, above))))
 fresh-request state who (SessionStatus session) served number numbered accepted above = (above, refl)
 fresh-request state who (CancelSession session) served number numbered accepted above = (above, refl)
+fresh-request state who (Finish session) served number numbered accepted above = (above, refl)
 fresh-request state who (Delta token) served number numbered accepted above = (above, refl)
 
 nothing-more : (sent : ℕ → List ℕ) (more : List ℕ) (number : ℕ) → sent number ≡ [] → more ≡ [] → sent number ++ more ≡ []
@@ -177,6 +180,11 @@ sent-step sent state (Event (EndSession session)) so = record {
   filled = all-same sent (λ n. []) (without_session session state.sessions) (λ n. refl) (All-filter (λ (s : Session). not (nat_eq s.number session)) (HasSent sent) state.sessions so.filled);
   fresh = λ number above. nothing-more sent [] number (so.fresh number above) refl;
   numbered = numbered-step state (Event (EndSession session)) so.numbered;
+}
+sent-step sent state (Event Plain) so = record {
+  filled = all-same sent (λ n. []) state.sessions (λ n. refl) so.filled;
+  fresh = λ number above. nothing-more sent [] number (so.fresh number above) refl;
+  numbered = so.numbered;
 }
 
 found-sent : (sent : ℕ → List ℕ) (number : ℕ) (sessions : List Session) (session : Session) → All (HasSent sent) sessions → session_at number sessions ≡ Some session → session.filled ≡ sent number

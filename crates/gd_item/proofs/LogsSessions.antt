@@ -5,16 +5,16 @@ use Rattle.std.proofs.lemmas.Bool.{eqb-true, ltb-true, ltb-false, ne_eqb, eq-eqb
 use Rattle.std.proofs.lemmas.List.{length_push}
 use Rattle.std.proofs.lemmas.List.Elements.{All-nil, All-cons, All-head, All-tail, All-weaker, All-push, All-filter, filter_passes}
 use Rattle.gd_names.specs.declared.conflict.Conflict.{Conflict}
-use Rattle.gd_item.specs.Completions.{is_last_of, completes, completions_after, completions}
-use Rattle.gd_item.specs.Refused.{or_else, by_session, by_store, last_refusal}
-use Rattle.gd_item.specs.Sessions.{State, Session, new_state, held, session_at, without_session, with_fragment, fragment_fault}
+use Rattle.gd_item.specs.Completions.{commits, completes, completions_after, completions}
+use Rattle.gd_item.specs.Refused.{or_else, by_session, by_store, last_refusal, finish_refusal}
+use Rattle.gd_item.specs.Sessions.{State, Session, new_state, held, session_at, is_completed, without_session, with_fragment, fragment_fault, finish_fault}
 use Rattle.gd_item.specs.Steps.{opened, sessions_of, openers_of, after_request, is_accepted, after_step}
 use Rattle.gd_item.specs.Targets.{place_of}
 use Rattle.gd_item.specs.declared.condition.Condition.{Condition}
 use Rattle.gd_item.specs.declared.live.Place.{Place}
 use Rattle.gd_item.specs.declared.request.Request.{Request}
-use Rattle.gd_item.specs.declared.request.Request.TheVariants.{Get, Children, MakeFolder, Put, Patch, Delete, Content, Download, OpenSession, Fragment, SessionStatus, CancelSession, Delta}
-use Rattle.gd_item.specs.declared.step.DriveEvent.TheVariants.{Expire, Restore, EndSession}
+use Rattle.gd_item.specs.declared.request.Request.TheVariants.{Get, Children, MakeFolder, Put, Patch, Delete, Content, Download, OpenSession, Fragment, SessionStatus, CancelSession, Finish, Delta}
+use Rattle.gd_item.specs.declared.step.DriveEvent.TheVariants.{Expire, Restore, EndSession, Plain}
 use Rattle.gd_item.specs.declared.step.Step.{Step}
 use Rattle.gd_item.specs.declared.step.Step.TheVariants.{Ask, Event}
 use Rattle.gd_item.specs.declared.step.Who.{Who}
@@ -36,11 +36,11 @@ kept-fragment P number total bytes (session ∷ sessions) all =
     by true = All-head (λ (s : Session). P s.number) session sessions all
     by false = All-head (λ (s : Session). P s.number) session sessions all
 
-kept-opened : (P : ℕ → Type 0) (number : ℕ) (place : Option Place) (behaviour : Conflict) (condition : Condition) (sessions : List Session) → P number → AreSessions P sessions
-    → AreSessions P (opened number place behaviour condition sessions)
-kept-opened P number None behaviour condition sessions new all = all
-kept-opened P number (Some place) behaviour condition sessions new all =
-    All-push (λ (s : Session). P s.number) sessions (record { number = number; place = place; behaviour = behaviour; condition = condition; total = None; filled = [] }) all new
+kept-opened : (P : ℕ → Type 0) (number : ℕ) (place : Option Place) (behaviour : Conflict) (condition : Condition) (defer : Bool) (sessions : List Session) → P number → AreSessions P sessions
+    → AreSessions P (opened number place behaviour condition defer sessions)
+kept-opened P number None behaviour condition defer sessions new all = all
+kept-opened P number (Some place) behaviour condition defer sessions new all =
+    All-push (λ (s : Session). P s.number) sessions (record { number = number; place = place; behaviour = behaviour; condition = condition; defer = defer; total = None; filled = [] }) all new
 
 kept-last : (P : ℕ → Type 0) (last_one : Bool) (number total : ℕ) (bytes : List ℕ) (sessions : List Session) → AreSessions P sessions
     → AreSessions P (cond last_one (without_session number sessions) (with_fragment number total bytes sessions))
@@ -57,11 +57,12 @@ kept-request P state (Patch at name parent condition) next all = all
 kept-request P state (Delete at condition) next all = all
 kept-request P state (Content at) next all = all
 kept-request P state (Download id version) next all = all
-kept-request P state (OpenSession at name behaviour condition) next all =
-    kept-opened P (length state.openers + 1) (place_of (held state) at) behaviour condition state.sessions next all
-kept-request P state (Fragment session first last total bytes) next all = kept-last P (nat_eq (last + 1) total) session total bytes state.sessions all
+kept-request P state (OpenSession at name behaviour condition defer) next all =
+    kept-opened P (length state.openers + 1) (place_of (held state) at) behaviour condition defer state.sessions next all
+kept-request P state (Fragment session first last total bytes) next all = kept-last P (is_completed (session_at session state.sessions) last total) session total bytes state.sessions all
 kept-request P state (SessionStatus session) next all = all
 kept-request P state (CancelSession session) next all = kept-without P session state.sessions all
+kept-request P state (Finish session) next all = kept-without P session state.sessions all
 kept-request P state (Delta token) next all = all
 
 -- how many sessions were opened only grows, and where one is opened by one
@@ -74,10 +75,11 @@ more-openers state who (Patch at name parent condition) = omega arith
 more-openers state who (Delete at condition) = omega arith
 more-openers state who (Content at) = omega arith
 more-openers state who (Download id version) = omega arith
-more-openers state who (OpenSession at name behaviour condition) = omega (arith, length_push state.openers who)
+more-openers state who (OpenSession at name behaviour condition defer) = omega (arith, length_push state.openers who)
 more-openers state who (Fragment session first last total bytes) = omega arith
 more-openers state who (SessionStatus session) = omega arith
 more-openers state who (CancelSession session) = omega arith
+more-openers state who (Finish session) = omega arith
 more-openers state who (Delta token) = omega arith
 
 -- every session's number is at most how many were opened
@@ -98,15 +100,16 @@ numbered-request state who (Patch at name parent condition) all = all
 numbered-request state who (Delete at condition) all = all
 numbered-request state who (Content at) all = all
 numbered-request state who (Download id version) all = all
-numbered-request state who (OpenSession at name behaviour condition) all =
+numbered-request state who (OpenSession at name behaviour condition defer) all =
     let long : length (state.openers ++ who ∷ []) ≡ length state.openers + 1 = length_push state.openers who in
-    kept-opened (λ n. n ≤ length (state.openers ++ who ∷ [])) (length state.openers + 1) (place_of (held state) at) behaviour condition state.sessions (omega (arith, long))
+    kept-opened (λ n. n ≤ length (state.openers ++ who ∷ [])) (length state.openers + 1) (place_of (held state) at) behaviour condition defer state.sessions (omega (arith, long))
     (All-weaker (λ (s : Session). s.number ≤ length state.openers) (λ s. s.number ≤ length (state.openers ++ who ∷ []))
     (λ s h. let low : s.number ≤ length state.openers = h in omega (arith, low, long)) state.sessions all)
 numbered-request state who (Fragment session first last total bytes) all =
-    kept-last (λ n. n ≤ length state.openers) (nat_eq (last + 1) total) session total bytes state.sessions all
+    kept-last (λ n. n ≤ length state.openers) (is_completed (session_at session state.sessions) last total) session total bytes state.sessions all
 numbered-request state who (SessionStatus session) all = all
 numbered-request state who (CancelSession session) all = kept-without (λ n. n ≤ length state.openers) session state.sessions all
+numbered-request state who (Finish session) all = kept-without (λ n. n ≤ length state.openers) session state.sessions all
 numbered-request state who (Delta token) all = all
 
 pub numbered-step : (state : State) (step : Step) → IsNumbered state → IsNumbered (after_step state step)
@@ -118,6 +121,7 @@ numbered-step state (Ask who request served heard) all = by (is_accepted state r
 numbered-step state (Event (Expire number)) all = all
 numbered-step state (Event Restore) all = all
 numbered-step state (Event (EndSession session)) all = kept-without (λ n. n ≤ length state.openers) session state.sessions all
+numbered-step state (Event Plain) all = all
 
 gone-request : (number : ℕ) (state : State) (who : Who) (request : Request) → IsGone number state → IsGone number (after_request state who request)
 gone-request number state who request gone = record {
@@ -135,6 +139,7 @@ gone-step number state (Event (Expire floor)) gone = record { unlisted = gone.un
 gone-step number state (Event Restore) gone = record { unlisted = gone.unlisted; opened = gone.opened }
 gone-step number state (Event (EndSession session)) gone =
     record { unlisted = kept-without (λ n. n ≢ number) session state.sessions gone.unlisted; opened = gone.opened }
+gone-step number state (Event Plain) gone = record { unlisted = gone.unlisted; opened = gone.opened }
 
 none-at : (number : ℕ) (sessions : List Session) → AreSessions (λ n. n ≢ number) sessions → session_at number sessions ≡ None
 none-at number [] all = refl
@@ -146,15 +151,19 @@ and-false : (b : Bool) → (b && false) ≡ false
 and-false true = refl
 and-false false = refl
 
--- a fragment of no session is not accepted
+-- a fragment of no session is not accepted, and none is finished
 not-accepted : (state : State) (number first last total : ℕ) (bytes : List ℕ) (served : Bool) → session_at number state.sessions ≡ None
     → is_accepted state (Fragment number first last total bytes) served ≡ false
 not-accepted state number first last total bytes served none =
-    ap (λ o. served && is_none (or_else (by_session (fragment_fault state o first last total bytes)) (by_store (last_refusal state o last total bytes)))) none ∙ and-false served
+    ap (λ o. served && is_none (or_else (by_session (fragment_fault (held state).kept state.sessions o first last total bytes)) (by_store (last_refusal state o last total bytes)))) none ∙ and-false served
+
+not-finished : (state : State) (number : ℕ) (served : Bool) → session_at number state.sessions ≡ None → is_accepted state (Finish number) served ≡ false
+not-finished state number served none =
+    ap (λ o. served && is_none (or_else (by_session (finish_fault o)) (by_store (finish_refusal state o)))) none ∙ and-false served
 
 gone-fragment : (session : ℕ) (state : State) (number first last total : ℕ) (bytes : List ℕ) (served : Bool) → IsGone session state
-    → (is_last_of session (Fragment number first last total bytes) && is_accepted state (Fragment number first last total bytes) served) ≡ false
-gone-fragment session state number first last total bytes served gone = by (nat_eq number session) refl (nat_eq (last + 1) total)
+    → (commits state session (Fragment number first last total bytes) && is_accepted state (Fragment number first last total bytes) served) ≡ false
+gone-fragment session state number first last total bytes served gone = by (nat_eq number session) refl (is_completed (session_at number state.sessions) last total)
   where
     by : (b : Bool) → nat_eq number session ≡ b → (c : Bool) → ((b && c) && is_accepted state (Fragment number first last total bytes) served) ≡ false
     by true is true =
@@ -162,6 +171,15 @@ gone-fragment session state number first last total bytes served gone = by (nat_
         not-accepted state number first last total bytes served (ap (λ n. session_at n state.sessions) same ∙ none-at session state.sessions gone.unlisted)
     by true is false = refl
     by false is c = refl
+
+gone-finish : (session : ℕ) (state : State) (number : ℕ) (served : Bool) → IsGone session state → (nat_eq number session && is_accepted state (Finish number) served) ≡ false
+gone-finish session state number served gone = by (nat_eq number session) refl
+  where
+    by : (b : Bool) → nat_eq number session ≡ b → (b && is_accepted state (Finish number) served) ≡ false
+    by true is =
+        let same : number ≡ session = eqb-true number session is in
+        not-finished state number served (ap (λ n. session_at n state.sessions) same ∙ none-at session state.sessions gone.unlisted)
+    by false is = refl
 
 gone-completes : (session : ℕ) (state : State) (step : Step) → IsGone session state → completes state session step ≡ false
 gone-completes session state (Ask who (Get at) served heard) gone = refl
@@ -172,10 +190,11 @@ gone-completes session state (Ask who (Patch at name parent condition) served he
 gone-completes session state (Ask who (Delete at condition) served heard) gone = refl
 gone-completes session state (Ask who (Content at) served heard) gone = refl
 gone-completes session state (Ask who (Download id version) served heard) gone = refl
-gone-completes session state (Ask who (OpenSession at name behaviour condition) served heard) gone = refl
+gone-completes session state (Ask who (OpenSession at name behaviour condition defer) served heard) gone = refl
 gone-completes session state (Ask who (Fragment number first last total bytes) served heard) gone = gone-fragment session state number first last total bytes served gone
 gone-completes session state (Ask who (SessionStatus number) served heard) gone = refl
 gone-completes session state (Ask who (CancelSession number) served heard) gone = refl
+gone-completes session state (Ask who (Finish number) served heard) gone = gone-finish session state number served gone
 gone-completes session state (Ask who (Delta token) served heard) gone = refl
 gone-completes session state (Event event) gone = refl
 
@@ -192,10 +211,9 @@ unlisted-without number sessions =
     (λ s h e. let is : nat_eq s.number number ≡ true = eq-eqb s.number number e in let wrong : not true ≡ true = sym (ap not is) ∙ h in absurd cc)
     (without_session number sessions) (filter_passes (λ (s : Session). not (nat_eq s.number number)) sessions)
 
--- a session of which a fragment is accepted was opened
-pub low-if-accepted : (state : State) (number first last total : ℕ) (bytes : List ℕ) (served : Bool) → IsNumbered state
-    → is_accepted state (Fragment number first last total bytes) served ≡ true → number ≤ length state.openers
-low-if-accepted state number first last total bytes served numbered accepted = by (nat_lt (length state.openers) number) refl
+-- a session of which a request is accepted was opened
+low-unless : (state : State) (number : ℕ) (accepted : Bool) → IsNumbered state → (session_at number state.sessions ≡ None → accepted ≡ false) → accepted ≡ true → number ≤ length state.openers
+low-unless state number accepted numbered refuses is_accepted = by (nat_lt (length state.openers) number) refl
   where
     by : (b : Bool) → nat_lt (length state.openers) number ≡ b → number ≤ length state.openers
     by true is =
@@ -203,17 +221,22 @@ low-if-accepted state number first last total bytes served numbered accepted = b
         let unlisted : AreSessions (λ n. n ≢ number) state.sessions =
         All-weaker (λ (s : Session). s.number ≤ length state.openers) (λ s. s.number ≢ number)
         (λ s h e. let low : s.number ≤ length state.openers = h in omega (arith, low, high, e)) state.sessions numbered in
-        let none : is_accepted state (Fragment number first last total bytes) served ≡ false = not-accepted state number first last total bytes served (none-at number state.sessions unlisted) in
-        let wrong : true ≡ false = sym accepted ∙ none in
+        let none : accepted ≡ false = refuses (none-at number state.sessions unlisted) in
+        let wrong : true ≡ false = sym is_accepted ∙ none in
         absurd cc
     by false is = ltb-false (length state.openers) number is
 
+pub low-if-accepted : (state : State) (number first last total : ℕ) (bytes : List ℕ) (served : Bool) → IsNumbered state
+    → is_accepted state (Fragment number first last total bytes) served ≡ true → number ≤ length state.openers
+low-if-accepted state number first last total bytes served numbered accepted =
+    low-unless state number (is_accepted state (Fragment number first last total bytes) served) numbered (not-accepted state number first last total bytes served) accepted
+
 completed-fragment : (session : ℕ) (state : State) (who : Who) (number first last total : ℕ) (bytes : List ℕ) (served : Bool) → IsNumbered state
-    → (is_last_of session (Fragment number first last total bytes) && is_accepted state (Fragment number first last total bytes) served) ≡ true
+    → (commits state session (Fragment number first last total bytes) && is_accepted state (Fragment number first last total bytes) served) ≡ true
     → IsGone session (cond (is_accepted state (Fragment number first last total bytes) served) (after_request state who (Fragment number first last total bytes)) state)
 completed-fragment session state who number first last total bytes served numbered completing =
-    let parts = and_parts (nat_eq number session && nat_eq (last + 1) total) (is_accepted state (Fragment number first last total bytes) served) completing in
-    let which = and_parts (nat_eq number session) (nat_eq (last + 1) total) parts.0 in
+    let parts = and_parts (nat_eq number session && is_completed (session_at number state.sessions) last total) (is_accepted state (Fragment number first last total bytes) served) completing in
+    let which = and_parts (nat_eq number session) (is_completed (session_at number state.sessions) last total) parts.0 in
     let same : number ≡ session = eqb-true number session which.0 in
     let low : number ≤ length state.openers = low-if-accepted state number first last total bytes served numbered parts.1 in
     let G : Bool → Type 0 = λ b. IsGone session (cond b (after_request state who (Fragment number first last total bytes)) state) in
@@ -225,6 +248,16 @@ completed-fragment session state who number first last total bytes served number
       opened = omega (arith, low, same);
     })
 
+completed-finish : (session : ℕ) (state : State) (who : Who) (number : ℕ) (served : Bool) → IsNumbered state → (nat_eq number session && is_accepted state (Finish number) served) ≡ true
+    → IsGone session (cond (is_accepted state (Finish number) served) (after_request state who (Finish number)) state)
+completed-finish session state who number served numbered completing =
+    let parts = and_parts (nat_eq number session) (is_accepted state (Finish number) served) completing in
+    let same : number ≡ session = eqb-true number session parts.0 in
+    let low : number ≤ length state.openers = low-unless state number (is_accepted state (Finish number) served) numbered (not-finished state number served) parts.1 in
+    let G : Bool → Type 0 = λ b. IsGone session (cond b (after_request state who (Finish number)) state) in
+    let W : ℕ → Type 0 = λ n. AreSessions (λ m. m ≢ session) (without_session n state.sessions) in
+    subst G (sym parts.1) (record { unlisted = subst W (sym same) (unlisted-without session state.sessions); opened = omega (arith, low, same) })
+
 completed-gone : (session : ℕ) (state : State) (step : Step) → IsNumbered state → completes state session step ≡ true → IsGone session (after_step state step)
 completed-gone session state (Ask who (Get at) served heard) numbered is = absurd cc
 completed-gone session state (Ask who (Children at earlier) served heard) numbered is = absurd cc
@@ -234,11 +267,12 @@ completed-gone session state (Ask who (Patch at name parent condition) served he
 completed-gone session state (Ask who (Delete at condition) served heard) numbered is = absurd cc
 completed-gone session state (Ask who (Content at) served heard) numbered is = absurd cc
 completed-gone session state (Ask who (Download id version) served heard) numbered is = absurd cc
-completed-gone session state (Ask who (OpenSession at name behaviour condition) served heard) numbered is = absurd cc
+completed-gone session state (Ask who (OpenSession at name behaviour condition defer) served heard) numbered is = absurd cc
 completed-gone session state (Ask who (Fragment number first last total bytes) served heard) numbered is =
     completed-fragment session state who number first last total bytes served numbered is
 completed-gone session state (Ask who (SessionStatus number) served heard) numbered is = absurd cc
 completed-gone session state (Ask who (CancelSession number) served heard) numbered is = absurd cc
+completed-gone session state (Ask who (Finish number) served heard) numbered is = completed-finish session state who number served numbered is
 completed-gone session state (Ask who (Delta token) served heard) numbered is = absurd cc
 completed-gone session state (Event event) numbered is = absurd cc
 

@@ -1,6 +1,7 @@
 -- What a drive answers: its refusal, or the reply to the request with the items as they are after it. An item of a
--- reply that is no page of the feed has the path of its folder.
-use Rattle.std.specs.Prelude.{ℕ, ◌+◌, Bool, true, false, cond, List, [], ◌∷◌, length, take, Option, Some, None}
+-- reply that is no page of the feed has the path of its folder. The items of a plain drive are shown without digests and
+-- content tags.
+use Rattle.std.specs.Prelude.{ℕ, ◌+◌, Bool, true, false, cond, List, [], ◌∷◌, length, map, take, Option, Some, None}
 use Rattle.gd_item.specs.Children.{children_past, first_children, has_more_children}
 use Rattle.gd_item.specs.Ids.{item_id}
 use Rattle.gd_item.specs.Inventory.{Effect, Inventory, live_at}
@@ -14,11 +15,13 @@ use Rattle.gd_item.specs.Targets.{target_of}
 use Rattle.gd_item.specs.Versions.{version_at}
 use Rattle.gd_item.specs.declared.fault.ErrorCode.TheVariants.{InvalidRequest, ItemNotFound, GeneralException}
 use Rattle.gd_item.specs.declared.item.Item.{Item}
+use Rattle.gd_item.specs.declared.item.Kind.{Kind}
+use Rattle.gd_item.specs.declared.item.Kind.TheVariants as kind
 use Rattle.gd_item.specs.declared.live.LiveItem.{LiveItem}
 use Rattle.gd_item.specs.declared.reply.Reply.{Reply}
 use Rattle.gd_item.specs.declared.reply.Reply.TheVariants as reply
 use Rattle.gd_item.specs.declared.request.Request.{Request}
-use Rattle.gd_item.specs.declared.request.Request.TheVariants.{Get, Children, MakeFolder, Put, Patch, Delete, Content, Download, OpenSession, Fragment, SessionStatus, CancelSession, Delta}
+use Rattle.gd_item.specs.declared.request.Request.TheVariants.{Get, Children, MakeFolder, Put, Patch, Delete, Content, Download, OpenSession, Fragment, SessionStatus, CancelSession, Finish, Delta}
 use Rattle.gd_item.specs.declared.step.Step.{Step}
 use Rattle.gd_item.specs.declared.step.Who.TheVariants.{Own}
 
@@ -92,12 +95,13 @@ reply_to before after size (Patch at name parent condition) =
 reply_to before after size (Delete at condition) = reply.Done
 reply_to before after size (Content at) = about (content_reply (held before)) (target_of (held before) at)
 reply_to before after size (Download id version) = about reply.Content (version_at id.0 version (held before))
-reply_to before after size (OpenSession at name behaviour condition) = reply.Session (length before.openers + 1) 0
+reply_to before after size (OpenSession at name behaviour condition defer) = reply.Session (length before.openers + 1) 0
 reply_to before after size (Fragment session first last total bytes) =
     effect_reply (held before) (held after) (about more_reply (session_at session after.sessions))
     (effects_of before (Fragment session first last total bytes))
 reply_to before after size (SessionStatus session) = about status_reply (session_at session before.sessions)
 reply_to before after size (CancelSession session) = reply.Done
+reply_to before after size (Finish session) = effect_reply (held before) (held after) reply.Done (effects_of before (Finish session))
 reply_to before after size (Delta token) = delta_reply before size (asked before token)
 
 -- the refusal, or else the reply
@@ -105,9 +109,38 @@ abbrev pub answer_unless : Option Refusal → State → ℕ → Request → Repl
 answer_unless None state size request = reply_to state (after_request state Own request) size request
 answer_unless (Some refusal) state size request = refused refusal
 
+-- an item without its digest and its content tag
+abbrev pub bare_kind : Kind → Kind
+bare_kind (kind.Folder child_count) = kind.Folder child_count
+bare_kind (kind.File digest) = kind.Bare
+bare_kind kind.Bare = kind.Bare
+bare_kind kind.Deleted = kind.Deleted
+
+abbrev pub bare_item : Item → Item
+bare_item item = record item { ctag = None; kind = bare_kind item.kind }
+
+-- a reply with such items
+abbrev pub bare_reply : Reply → Reply
+bare_reply (reply.Made item) = reply.Made (bare_item item)
+bare_reply (reply.Is item) = reply.Is (bare_item item)
+bare_reply (reply.Listed items next) = reply.Listed (map bare_item items) next
+bare_reply reply.Done = reply.Done
+bare_reply (reply.Found id version) = reply.Found id version
+bare_reply (reply.Content bytes) = reply.Content bytes
+bare_reply (reply.Session session expected) = reply.Session session expected
+bare_reply (reply.Status expected) = reply.Status expected
+bare_reply (reply.More expected) = reply.More expected
+bare_reply (reply.Page page) = reply.Page (record page { items = map bare_item page.items })
+bare_reply (reply.Gone resync) = reply.Gone resync
+bare_reply (reply.Refused status code) = reply.Refused status code
+
+-- a reply as a drive shows it that is plain or not
+abbrev pub shown : Bool → Reply → Reply
+shown plain reply = cond plain (bare_reply reply) reply
+
 -- what a drive answers that has come to this; a page has at most so many records, and a list so many items
 abbrev pub answer : State → ℕ → Request → Reply
-answer state size request = answer_unless (refusal state request) state size request
+answer state size request = shown state.plain (answer_unless (refusal state request) state size request)
 
 -- what it answers after the steps of a log
 abbrev pub answer_of : List Step → ℕ → Request → Reply

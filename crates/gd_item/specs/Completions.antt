@@ -1,21 +1,22 @@
 -- What the accepted fragments of an upload session brought, and how often its file was made.
 use Rattle.std.specs.Prelude.{ℕ, ◌+◌, Bool, false, ◌&&◌, cond, List, [], ◌∷◌, ◌++◌, length, sum_by, nat_eq}
-use Rattle.gd_item.specs.Sessions.{State, new_state}
+use Rattle.gd_item.specs.Sessions.{State, new_state, session_at, is_completed}
 use Rattle.gd_item.specs.Steps.{is_accepted, after_step}
 use Rattle.gd_item.specs.declared.live.Version.{Version}
 use Rattle.gd_item.specs.declared.request.Request.{Request}
-use Rattle.gd_item.specs.declared.request.Request.TheVariants.{Fragment}
+use Rattle.gd_item.specs.declared.request.Request.TheVariants.{Fragment, Finish}
 use Rattle.gd_item.specs.declared.step.Step.{Step}
 use Rattle.gd_item.specs.declared.step.Step.TheVariants.{Ask, Event}
 
--- whether a request is a last fragment of a session
-abbrev pub is_last_of : ℕ → Request → Bool
-is_last_of session (Fragment number first last total bytes) = nat_eq number session && nat_eq (last + 1) total
-is_last_of session request = false
+-- whether a request makes the file of a session: it is a fragment that completes it, or finishes the session
+abbrev pub commits : State → ℕ → Request → Bool
+commits state session (Fragment number first last total bytes) = nat_eq number session && is_completed (session_at number state.sessions) last total
+commits state session (Finish number) = nat_eq number session
+commits state session request = false
 
 -- whether a step completes a session
 abbrev pub completes : State → ℕ → Step → Bool
-completes state session (Ask who request served heard) = is_last_of session request && is_accepted state request served
+completes state session (Ask who request served heard) = commits state session request && is_accepted state request served
 completes state session (Event event) = false
 
 -- how many of the steps do

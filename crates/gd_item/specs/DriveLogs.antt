@@ -13,8 +13,8 @@ use Rattle.gd_item.specs.declared.reply.Reply.{Reply}
 use Rattle.gd_item.specs.declared.reply.Reply.TheVariants as reply
 use Rattle.gd_item.specs.declared.request.Address.TheVariants.{ByPath}
 use Rattle.gd_item.specs.declared.request.Request.{Request}
-use Rattle.gd_item.specs.declared.request.Request.TheVariants.{MakeFolder, Put, Patch, Delete, OpenSession, Fragment, CancelSession}
-use Rattle.gd_item.specs.declared.step.DriveEvent.TheVariants.{Expire, Restore}
+use Rattle.gd_item.specs.declared.request.Request.TheVariants.{MakeFolder, Put, Patch, Delete, OpenSession, Fragment, CancelSession, Finish}
+use Rattle.gd_item.specs.declared.step.DriveEvent.TheVariants.{Expire, Restore, Plain}
 use Rattle.gd_item.specs.declared.step.Step.{Step}
 use Rattle.gd_item.specs.declared.step.Step.TheVariants.{Ask, Event}
 use Rattle.gd_item.specs.declared.step.Who.TheVariants.{Own, Other}
@@ -45,7 +45,11 @@ abbrev pub put_new : List (List ℕ) → List ℕ → Condition → Request
 put_new path bytes condition = Put (ByPath path) bytes Fail condition
 
 abbrev pub send_new : List (List ℕ) → Request
-send_new path = OpenSession (ByPath path) None Fail Free
+send_new path = OpenSession (ByPath path) None Fail Free false
+
+-- the same where the file is made by a request of its own
+abbrev pub defer_new : List (List ℕ) → Request
+defer_new path = OpenSession (ByPath path) None Fail Free true
 
 -- a folder `a` and a folder `b` in it
 abbrev pub moved_folder_log : List Step
@@ -121,6 +125,20 @@ meddled_log = Ask Own (send_new (codes "s" ∷ [])) true true ∷ other (CancelS
 abbrev pub ten_bytes : Request
 ten_bytes = Fragment 1 0 9 10 (codes "0123456789")
 
+-- a deferred session for a file `s` in the root, and then its ten bytes, and then the request that makes the file
+abbrev pub deferred_log : List Step
+deferred_log = other (defer_new (codes "s" ∷ [])) ∷ []
+
+abbrev pub filled_log : List Step
+filled_log = deferred_log ++ other ten_bytes ∷ []
+
+abbrev pub finished_log : List Step
+finished_log = filled_log ++ other (Finish 1) ∷ []
+
+-- a file in the root of a drive that became plain
+abbrev pub plain_log : List Step
+plain_log = Event Plain ∷ other (put_at (codes "a" ∷ []) (codes "x")) ∷ []
+
 -- the three fragments of a file of 655,361 bytes
 abbrev pub first_part : List ℕ → Request
 first_part bytes = Fragment 1 0 327679 655361 bytes
@@ -161,21 +179,6 @@ next_of other = None
 abbrev pub link_of : Reply → Option PageLink
 link_of (reply.Page page) = Some page.link
 link_of other = None
-
--- the status with which a reply is sent
-abbrev pub status_of_reply : Reply → ℕ
-status_of_reply (reply.Made item) = 201
-status_of_reply (reply.Is item) = 200
-status_of_reply (reply.Listed items next) = 200
-status_of_reply reply.Done = 204
-status_of_reply (reply.Found id version) = 302
-status_of_reply (reply.Content bytes) = 200
-status_of_reply (reply.Session session expected) = 200
-status_of_reply (reply.Status expected) = 200
-status_of_reply (reply.More expected) = 202
-status_of_reply (reply.Page page) = 200
-status_of_reply (reply.Gone resync) = 410
-status_of_reply (reply.Refused status code) = status
 
 -- what a drive has come to that has so many files in its root
 abbrev pub files_put : ℕ → List Effect

@@ -5,7 +5,7 @@ use Rattle.gd_item.specs.declared.fault.StoreFault.TheVariants.{NotFound, NotFol
 use Rattle.gd_item.specs.declared.fault.SessionFault.{SessionFault}
 use Rattle.gd_item.specs.declared.fault.SessionFault.TheVariants as session
 use Rattle.gd_item.specs.declared.fault.ErrorCode.{ErrorCode}
-use Rattle.gd_item.specs.declared.fault.ErrorCode.TheVariants.{InvalidRequest, InvalidRange, ItemNotFound, NotSupported, NameAlreadyExists, ResyncChangesApplyDifferences, ResyncChangesUploadDifferences, ResourceModified, GeneralException, QuotaLimitReached}
+use Rattle.gd_item.specs.declared.fault.ErrorCode.TheVariants.{InvalidRequest, InvalidRange, ItemNotFound, NotSupported, NameAlreadyExists, ResyncChangesApplyDifferences, ResyncChangesUploadDifferences, ResourceModified, FailedDependency, GeneralException, QuotaLimitReached}
 
 abbrev pub status_of : StoreFault → ℕ
 status_of NotFound = 404
@@ -66,5 +66,6 @@ code_text NameAlreadyExists = codes "nameAlreadyExists"
 code_text ResyncChangesApplyDifferences = codes "resyncChangesApplyDifferences"
 code_text ResyncChangesUploadDifferences = codes "resyncChangesUploadDifferences"
 code_text ResourceModified = codes "resourceModified"
+code_text FailedDependency = codes "failedDependency"
 code_text GeneralException = codes "generalException"
 code_text QuotaLimitReached = codes "quotaLimitReached"

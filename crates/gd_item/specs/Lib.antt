@@ -13,6 +13,7 @@ pub mod Places
 pub mod Records
 pub mod Refusals
 pub mod Refused
+pub mod Replies
 pub mod Requests
 pub mod Sessions
 pub mod Sound
@@ -22,3 +23,5 @@ pub mod Targets
 pub mod Tokens
 pub mod Trees
 pub mod Versions
+pub mod Views
+pub mod Written

@@ -6,7 +6,7 @@ use Rattle.std.specs.Option.{option_map}
 use Rattle.gd_names.specs.Caseless.{equal_caseless}
 use Rattle.gd_item.specs.declared.item.Item.{Item}
 use Rattle.gd_item.specs.declared.item.Kind.{Kind}
-use Rattle.gd_item.specs.declared.item.Kind.TheVariants.{Folder, File, Deleted}
+use Rattle.gd_item.specs.declared.item.Kind.TheVariants.{Folder, File, Bare, Deleted}
 use Rattle.gd_item.specs.declared.id.ItemId.{ItemId}
 use Rattle.gd_item.specs.declared.live.LiveItem.{LiveItem}
 
@@ -24,6 +24,7 @@ live_node item = record { number = item.number; parent = Some item.parent; name 
 abbrev pub is_folder_kind : Kind → Bool
 is_folder_kind (Folder child_count) = true
 is_folder_kind (File digest) = false
+is_folder_kind Bare = false
 is_folder_kind Deleted = false
 
 -- an item of a reply as a node

@@ -10,7 +10,7 @@ use Rattle.gd_item.specs.Moves.{patch_refusal, remove_refusal}
 use Rattle.gd_item.specs.Pages.{asked, is_bad}
 use Rattle.gd_item.specs.Records.{record_at}
 use Rattle.gd_item.specs.Refusals.{missing, folder_refusal, file_refusal, make_folder_refusal, put_refusal}
-use Rattle.gd_item.specs.Sessions.{State, Session, held, held_bytes, session_at, fragment_fault}
+use Rattle.gd_item.specs.Sessions.{State, Session, held, held_bytes, session_at, completes_file, fragment_fault, finish_fault}
 use Rattle.gd_item.specs.Targets.{target_of, place_of, name_in}
 use Rattle.gd_item.specs.Versions.{version_at}
 use Rattle.gd_item.specs.declared.condition.Condition.{Condition}
@@ -23,7 +23,7 @@ use Rattle.gd_item.specs.declared.fault.StoreFault.TheVariants.{NotFound, Quota}
 use Rattle.gd_item.specs.declared.id.ItemId.{ItemId}
 use Rattle.gd_item.specs.declared.request.Address.{Address}
 use Rattle.gd_item.specs.declared.request.Request.{Request}
-use Rattle.gd_item.specs.declared.request.Request.TheVariants.{Get, Children, MakeFolder, Put, Patch, Delete, Content, Download, OpenSession, Fragment, SessionStatus, CancelSession, Delta}
+use Rattle.gd_item.specs.declared.request.Request.TheVariants.{Get, Children, MakeFolder, Put, Patch, Delete, Content, Download, OpenSession, Fragment, SessionStatus, CancelSession, Finish, Delta}
 
 -- the status and the code of an error reply
 pub record Refusal : Type 0 where
@@ -70,14 +70,20 @@ is_unlike None spelt = false
 is_unlike (Some name) None = false
 is_unlike (Some name) (Some spelt) = not (pointwise nat_eq name spelt)
 
--- why the last fragment is refused: as the put of the whole file, whose session then lives no more
-abbrev pub whole_refusal : State → Session → List ℕ → Option StoreFault
-whole_refusal state session bytes =
-    put_refusal (held state) session.place (session.filled ++ bytes) session.behaviour session.condition (held_bytes state.sessions - length session.filled)
+-- why a session's file is not made of these bytes: as the put of the whole file, whose session then lives no more
+abbrev pub commit_refusal : State → Session → List ℕ → Option StoreFault
+commit_refusal state session bytes =
+    put_refusal (held state) session.place bytes session.behaviour session.condition (held_bytes state.sessions - length session.filled)
 
+-- why the fragment that completes a file is refused, and why a session is not finished
 abbrev pub last_refusal : State → Option Session → ℕ → ℕ → List ℕ → Option StoreFault
 last_refusal state None last total bytes = None
-last_refusal state (Some session) last total bytes = cond (nat_eq (last + 1) total) (whole_refusal state session bytes) None
+last_refusal state (Some session) last total bytes =
+    cond (completes_file session last total) (commit_refusal state session (session.filled ++ bytes)) None
+
+abbrev pub finish_refusal : State → Option Session → Option StoreFault
+finish_refusal state None = None
+finish_refusal state (Some session) = commit_refusal state session session.filled
 
 -- why no session is opened: its name is another, the put would be refused, or there are too many
 abbrev pub open_refusal : State → Address → Option (List ℕ) → Conflict → Condition → Option Refusal
@@ -107,10 +113,12 @@ refusal state (Delete at condition) =
     by_store (with_sessions state (at_target (λ number. remove_refusal (held state) number condition) (target_of (held state) at)))
 refusal state (Content at) = by_store (at_target (file_refusal (held state)) (target_of (held state) at))
 refusal state (Download id version) = by_store (missing (version_at id.0 version (held state)))
-refusal state (OpenSession at name behaviour condition) = open_refusal state at name behaviour condition
+refusal state (OpenSession at name behaviour condition defer) = open_refusal state at name behaviour condition
 refusal state (Fragment session first last total bytes) =
-    or_else (by_session (fragment_fault state (session_at session state.sessions) first last total bytes))
+    or_else (by_session (fragment_fault (held state).kept state.sessions (session_at session state.sessions) first last total bytes))
     (by_store (last_refusal state (session_at session state.sessions) last total bytes))
 refusal state (SessionStatus session) = by_session (not_living (session_at session state.sessions))
 refusal state (CancelSession session) = by_session (not_living (session_at session state.sessions))
+refusal state (Finish session) =
+    or_else (by_session (finish_fault (session_at session state.sessions))) (by_store (finish_refusal state (session_at session state.sessions)))
 refusal state (Delta token) = cond (is_bad (asked state token)) (Some (refuse 400 InvalidRequest)) None

@@ -6,16 +6,16 @@ use Rattle.gd_item.specs.Inventory.{Effect, Inventory, inventory_at}
 use Rattle.gd_item.specs.Moves.{patch_effect, remove_effects}
 use Rattle.gd_item.specs.Refusals.{make_folder_effect, put_effect}
 use Rattle.gd_item.specs.Refused.{refusal, id_number}
-use Rattle.gd_item.specs.Sessions.{State, Session, new_state, held, session_at, without_session, with_fragment}
+use Rattle.gd_item.specs.Sessions.{State, Session, new_state, held, session_at, is_completed, completes_file, without_session, with_fragment}
 use Rattle.gd_item.specs.Targets.{target_of, place_of}
 use Rattle.gd_item.specs.Versions.{accepted}
 use Rattle.gd_item.specs.declared.condition.Condition.{Condition}
 use Rattle.gd_item.specs.declared.live.Place.{Place}
 use Rattle.gd_item.specs.declared.live.Version.{Version}
 use Rattle.gd_item.specs.declared.request.Request.{Request}
-use Rattle.gd_item.specs.declared.request.Request.TheVariants.{Get, Children, MakeFolder, Put, Patch, Delete, Content, Download, OpenSession, Fragment, SessionStatus, CancelSession, Delta}
+use Rattle.gd_item.specs.declared.request.Request.TheVariants.{Get, Children, MakeFolder, Put, Patch, Delete, Content, Download, OpenSession, Fragment, SessionStatus, CancelSession, Finish, Delta}
 use Rattle.gd_item.specs.declared.step.DriveEvent.{DriveEvent}
-use Rattle.gd_item.specs.declared.step.DriveEvent.TheVariants.{Expire, Restore, EndSession}
+use Rattle.gd_item.specs.declared.step.DriveEvent.TheVariants.{Expire, Restore, EndSession, Plain}
 use Rattle.gd_item.specs.declared.step.Step.{Step}
 use Rattle.gd_item.specs.declared.step.Step.TheVariants.{Ask, Event}
 use Rattle.gd_item.specs.declared.step.Who.{Who}
@@ -26,10 +26,17 @@ abbrev pub effects_at : {X : Type 0} → (X → List Effect) → Option X → Li
 effects_at effects None = []
 effects_at effects (Some target) = effects target
 
--- the effect of a fragment, where it is the last one
+-- the effect of making a session's file of these bytes
+abbrev pub commit_effect : State → Session → List ℕ → Effect
+commit_effect state session bytes = put_effect (held state) session.place bytes session.behaviour
+
+-- the effect of a fragment, where it completes the file, and of finishing a session
 abbrev pub fragment_effects : State → ℕ → ℕ → List ℕ → Session → List Effect
 fragment_effects state last total bytes session =
-    cond (nat_eq (last + 1) total) (put_effect (held state) session.place (session.filled ++ bytes) session.behaviour ∷ []) []
+    cond (completes_file session last total) (commit_effect state session (session.filled ++ bytes) ∷ []) []
+
+abbrev pub finish_effects : State → Session → List Effect
+finish_effects state session = commit_effect state session session.filled ∷ []
 
 -- the effects of a request that is not refused
 abbrev pub effects_of : State → Request → List Effect
@@ -44,18 +51,19 @@ effects_of state (Patch at name parent condition) =
 effects_of state (Delete at condition) = effects_at (remove_effects (held state)) (target_of (held state) at)
 effects_of state (Content at) = []
 effects_of state (Download id version) = []
-effects_of state (OpenSession at name behaviour condition) = []
+effects_of state (OpenSession at name behaviour condition defer) = []
 effects_of state (Fragment session first last total bytes) =
     effects_at (fragment_effects state last total bytes) (session_at session state.sessions)
 effects_of state (SessionStatus session) = []
 effects_of state (CancelSession session) = []
+effects_of state (Finish session) = effects_at (finish_effects state) (session_at session state.sessions)
 effects_of state (Delta token) = []
 
 -- the sessions with one more, where its place is known
-abbrev pub opened : ℕ → Option Place → Conflict → Condition → List Session → List Session
-opened number None behaviour condition sessions = sessions
-opened number (Some place) behaviour condition sessions =
-    sessions ++ record { number = number; place = place; behaviour = behaviour; condition = condition; total = None; filled = [] } ∷ []
+abbrev pub opened : ℕ → Option Place → Conflict → Condition → Bool → List Session → List Session
+opened number None behaviour condition defer sessions = sessions
+opened number (Some place) behaviour condition defer sessions =
+    sessions ++ record { number = number; place = place; behaviour = behaviour; condition = condition; defer = defer; total = None; filled = [] } ∷ []
 
 -- the sessions after a request that is not refused
 abbrev pub sessions_of : State → Request → List Session
@@ -67,17 +75,18 @@ sessions_of state (Patch at name parent condition) = state.sessions
 sessions_of state (Delete at condition) = state.sessions
 sessions_of state (Content at) = state.sessions
 sessions_of state (Download id version) = state.sessions
-sessions_of state (OpenSession at name behaviour condition) =
-    opened (length state.openers + 1) (place_of (held state) at) behaviour condition state.sessions
+sessions_of state (OpenSession at name behaviour condition defer) =
+    opened (length state.openers + 1) (place_of (held state) at) behaviour condition defer state.sessions
 sessions_of state (Fragment session first last total bytes) =
-    cond (nat_eq (last + 1) total) (without_session session state.sessions) (with_fragment session total bytes state.sessions)
+    cond (is_completed (session_at session state.sessions) last total) (without_session session state.sessions) (with_fragment session total bytes state.sessions)
 sessions_of state (SessionStatus session) = state.sessions
 sessions_of state (CancelSession session) = without_session session state.sessions
+sessions_of state (Finish session) = without_session session state.sessions
 sessions_of state (Delta token) = state.sessions
 
 -- who opened the sessions, after a request that is not refused
 abbrev pub openers_of : State → Who → Request → List Who
-openers_of state who (OpenSession at name behaviour condition) = state.openers ++ who ∷ []
+openers_of state who (OpenSession at name behaviour condition defer) = state.openers ++ who ∷ []
 openers_of state who request = state.openers
 
 -- what the drive has come to after a request that is not refused
@@ -89,10 +98,16 @@ abbrev pub after_event : State → DriveEvent → State
 after_event state (Expire number) = record state { floor = max state.floor (min number (held state).number) }
 after_event state Restore = record state { epoch = min (state.epoch + 1) (2 ^ 64 - 1) }
 after_event state (EndSession session) = record state { sessions = without_session session state.sessions }
+after_event state Plain = record state { plain = true }
 
 -- whether a request is accepted: it is served and not refused
 abbrev pub is_accepted : State → Request → Bool → Bool
 is_accepted state request served = served && is_none (refusal state request)
+
+-- the effects of one step
+abbrev pub effects_by : State → Step → List Effect
+effects_by state (Ask who request served heard) = cond (is_accepted state request served) (effects_of state request) []
+effects_by state (Event event) = []
 
 -- what the drive has come to after one more step
 abbrev pub after_step : State → Step → State
@@ -135,6 +150,7 @@ abbrev pub names_own_session : State → Request → Bool
 names_own_session state (Fragment session first last total bytes) = is_own (opener_of session state.openers)
 names_own_session state (SessionStatus session) = is_own (opener_of session state.openers)
 names_own_session state (CancelSession session) = is_own (opener_of session state.openers)
+names_own_session state (Finish session) = is_own (opener_of session state.openers)
 names_own_session state request = false
 
 -- an upload session is known to its opener alone: no other's step names one that this client opened

@@ -1,8 +1,9 @@
 -- The versions that a drive accepted: one for each put, with the item, its content number and its bytes.
-use Rattle.std.specs.Prelude.{ℕ, ◌+◌, ◌&&◌, cond, List, [], ◌∷◌, ◌++◌, nat_eq, Option, Some, None}
+use Rattle.std.specs.Prelude.{ℕ, ◌+◌, ◌&&◌, cond, List, [], ◌∷◌, ◌++◌, length, map, filter, reverse, nat_eq, Option, Some, None}
 use Rattle.gd_item.specs.Inventory.{Effect, MadeFolder, PutNew, PutOver, Moved, Removed, Inventory, new_drive, live_at, after}
 use Rattle.gd_item.specs.declared.live.LiveItem.{LiveItem}
 use Rattle.gd_item.specs.declared.live.Version.{Version}
+use Rattle.gd_item.specs.declared.live.VersionInfo.{VersionInfo}
 
 -- the version that an effect put
 abbrev pub put_by : Inventory → Effect → List Version
@@ -47,3 +48,10 @@ content_of (Some item) = item.content
 
 abbrev pub content_at : ℕ → Inventory → ℕ
 content_at number held = content_of (live_at number held.items)
+
+-- the list of an item's versions: of each its content number and its size, the last one first
+abbrev pub info_of : Version → VersionInfo
+info_of version = record { version = version.content; size = length version.bytes }
+
+abbrev pub versions_of : ℕ → List Version → List VersionInfo
+versions_of number versions = reverse (map info_of (filter (λ (version : Version). nat_eq version.item number) versions))

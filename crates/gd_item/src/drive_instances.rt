@@ -1,8 +1,9 @@
 //! Instances of the drive's log and of its answers, each the contract of a function that does nothing.
 ghost use Rattle.std.specs.Prelude.{◌≡◌, [], ◌∷◌, ◌++◌, codes, Some, None};
 ghost use Rattle.gd_item.specs.Answers.{answer, answer_of, refused};
-ghost use Rattle.gd_item.specs.DriveLogs.{put_at, put_new, rename_at, remove_at, other, moved_folder_log, two_files_log, renamed_log, three_files_log, expired_log, floor_log, folder_log, nested_log, one_folder_log, removed_file_log, restored_log, letters_log, unlucky_log, named_by, next_of, link_of, many_files, records_in, status_of_reply};
+ghost use Rattle.gd_item.specs.DriveLogs.{put_at, put_new, rename_at, remove_at, other, moved_folder_log, two_files_log, renamed_log, three_files_log, expired_log, floor_log, folder_log, nested_log, one_folder_log, removed_file_log, restored_log, letters_log, unlucky_log, named_by, next_of, link_of, many_files, records_in};
 ghost use Rattle.gd_item.specs.Refused.{refuse, refusal};
+ghost use Rattle.gd_item.specs.Replies.{status_of_reply};
 ghost use Rattle.gd_item.specs.Steps.{state_of, held_by, number_of};
 ghost use Rattle.gd_item.specs.Tokens.{token_text, token_of_text};
 ghost use Rattle.gd_item.specs.Trees.{tree_of};

@@ -16,6 +16,7 @@ pub enum ErrorCode {
     ResyncChangesApplyDifferences,
     ResyncChangesUploadDifferences,
     ResourceModified,
+    FailedDependency,
     GeneralException,
     QuotaLimitReached,
 }
@@ -40,6 +41,7 @@ impl ErrorCode {
             ErrorCode::ResyncChangesApplyDifferences => "resyncChangesApplyDifferences",
             ErrorCode::ResyncChangesUploadDifferences => "resyncChangesUploadDifferences",
             ErrorCode::ResourceModified => "resourceModified",
+            ErrorCode::FailedDependency => "failedDependency",
             ErrorCode::GeneralException => "generalException",
             ErrorCode::QuotaLimitReached => "quotaLimitReached",
         }
@@ -150,6 +152,7 @@ pub enum SessionFault {
     NoSession,
     #[error("the whole length is not that of the first fragment")]
     Total,
+    /// Also of a session that is finished too early, or that is not deferred.
     #[error("the range is none of the file, or not that of the bytes")]
     Form,
     #[error("the fragment or the file is too large")]

@@ -43,6 +43,8 @@ pub fn ctag_of(alloc: Global, content: u64) -> Result<Tag, NoMemory>
 pub enum Kind {
     Folder { child_count: u64 },
     File { digest: Digest },
+    /// A file whose digest the drive does not give.
+    Bare,
     Deleted,
 }
 

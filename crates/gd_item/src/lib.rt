@@ -32,7 +32,7 @@ pub use id::ItemId;
 pub use instances::{file_replaced, folder_refusals, folder_removed, taken_name_put};
 pub use item::{Item, Kind, Tag, ctag_of, etag_of};
 pub use laws::{ids_read_back, tokens_read_back};
-pub use live::{LiveItem, Place, Tombstone, Version};
+pub use live::{LiveItem, Place, Tombstone, Version, VersionInfo};
 pub use log_laws::{
     a_session_completes_once, a_version_is_accepted, accepted_versions_stay,
     kept_bytes_are_those_of_versions, numbers_never_fall, pages_give_each_change_once,
@@ -42,8 +42,8 @@ pub use parts::split_last;
 pub use reply::{Page, PageLink, Reply, Resync};
 pub use request::{Address, Request, RequestKind};
 pub use session_instances::{
-    drive_filled, fragments_refused, large_file_sent, large_put_refused, session_completed,
-    session_overtaken, sessions_kept_apart,
+    deferred_session_finished, drive_filled, fragments_refused, large_file_sent, large_put_refused,
+    plain_drive_bare, session_completed, session_overtaken, sessions_kept_apart,
 };
 pub use step::{DriveEvent, Step, Who};
 pub use token::Token;

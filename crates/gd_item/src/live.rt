@@ -80,6 +80,21 @@ impl Exact for Version {
     ghost exact = { λ x y h. h };
 }
 
+/// A version of a file, as a list of versions has it.
+#[derive(Clone, Copy, Debug, PartialEq, Eq)]
+pub struct VersionInfo {
+    /// The content number.
+    pub version: u64,
+    /// In bytes.
+    pub size: u64,
+}
+
+impl Exact for VersionInfo {
+    ghost use Rattle.std.proofs.Common.{rules};
+
+    ghost exact = { Prim.search rules };
+}
+
 /// Where a file is put: over the file of this number, or under this folder with this name.
 #[derive(Debug, PartialEq, Eq, Drop)]
 pub enum Place {

@@ -1,5 +1,5 @@
 //! Laws of the drive's log, each the contract of a function that does nothing.
-ghost use Rattle.std.specs.Prelude.{◌≡◌, ℕ, ◌<◌, ◌≤◌, List, ◌++◌, take, Some};
+ghost use Rattle.std.specs.Prelude.{◌≡◌, ℕ, ◌<◌, ◌≤◌, true, List, ◌++◌, take, Some};
 ghost use Rattle.std.specs.List.{Any, AllPairs};
 ghost use Rattle.gd_item.specs.Completions.{completions, received, bytes_in};
 ghost use Rattle.gd_item.specs.Inventory.{Inventory};
@@ -12,11 +12,12 @@ use crate::item::Item;
 use crate::live::Version;
 use crate::step::Step;
 
-/// More steps lower neither the change number nor the epoch nor the floor.
+/// More steps lower neither the change number nor the epoch nor the floor, and a plain drive stays plain.
 pub fn numbers_never_fall()
     ensures number { (log more : List Step) → number_of log ≤ number_of (log ++ more) }
     ensures epoch { (log more : List Step) → (state_of log).epoch ≤ (state_of (log ++ more)).epoch }
     ensures floor { (log more : List Step) → (state_of log).floor ≤ (state_of (log ++ more)).floor }
+    ensures plain { (log more : List Step) → (state_of log).plain ≡ true → (state_of (log ++ more)).plain ≡ true }
 {}
 
 /// What was accepted stays, and later versions come after it.

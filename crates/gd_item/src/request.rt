@@ -75,6 +75,8 @@ pub enum Request {
         name: Option<Text>,
         behaviour: Conflict,
         condition: Condition,
+        /// Whether the file is made by a `Finish`, and not by the last fragment (`deferCommit`).
+        defer: bool,
     },
     Fragment {
         session: u64,
@@ -90,6 +92,10 @@ pub enum Request {
         session: u64,
     },
     CancelSession {
+        session: u64,
+    },
+    /// Makes the file of a deferred session.
+    Finish {
         session: u64,
     },
     Delta {
@@ -152,11 +158,13 @@ impl Clone for Request {
                 name,
                 behaviour,
                 condition,
+                defer,
             } => Ok(Request::OpenSession {
                 at: at.clone()?,
                 name: name.clone()?,
                 behaviour: *behaviour,
                 condition: condition.clone()?,
+                defer: *defer,
             }),
             Request::Fragment {
                 session,
@@ -173,6 +181,7 @@ impl Clone for Request {
             }),
             Request::SessionStatus { session } => Ok(Request::SessionStatus { session: *session }),
             Request::CancelSession { session } => Ok(Request::CancelSession { session: *session }),
+            Request::Finish { session } => Ok(Request::Finish { session: *session }),
             Request::Delta { token } => Ok(Request::Delta {
                 token: token.clone()?,
             }),
@@ -199,6 +208,7 @@ pub enum RequestKind {
     Fragment,
     SessionStatus,
     CancelSession,
+    Finish,
     Delta,
 }
 
@@ -226,6 +236,7 @@ impl Request {
             Request::Fragment { .. } => RequestKind::Fragment,
             Request::SessionStatus { .. } => RequestKind::SessionStatus,
             Request::CancelSession { .. } => RequestKind::CancelSession,
+            Request::Finish { .. } => RequestKind::Finish,
             Request::Delta { .. } => RequestKind::Delta,
         }
     }

@@ -1,13 +1,17 @@
 //! Instances of upload sessions, each the contract of a function that does nothing.
-ghost use Rattle.std.specs.Prelude.{◌≡◌, ℕ, true, false, List, [], ◌∷◌, ◌++◌, length, codes, Some};
+ghost use Rattle.std.specs.Prelude.{◌≡◌, ℕ, true, false, List, [], ◌∷◌, ◌++◌, length, codes, Some, None};
 ghost use Rattle.gd_item.specs.Answers.{answer_of, refused};
-ghost use Rattle.gd_item.specs.DriveLogs.{put_at, send_new, other, opened_log, overtaken_log, meddled_log, putting_log, ten_bytes, first_part, second_part, third_part, begun_log, two_parts_log, sent_log, status_of_reply};
+ghost use Rattle.gd_item.specs.DriveLogs.{put_at, send_new, other, opened_log, overtaken_log, meddled_log, putting_log, ten_bytes, first_part, second_part, third_part, begun_log, two_parts_log, sent_log, deferred_log, filled_log, finished_log, plain_log};
+ghost use Rattle.gd_item.specs.Ids.{item_id};
 ghost use Rattle.gd_item.specs.Refused.{refuse};
+ghost use Rattle.gd_item.specs.Replies.{status_of_reply};
+ghost use Rattle.gd_item.specs.Tags.{tag_of, etag_text};
 ghost use Rattle.gd_item.specs.Steps.{held_by, number_of, is_fair};
 ghost use Rattle.gd_item.specs.declared.reply.Reply.TheVariants as reply;
 
 use crate::fault::ErrorCode;
-use crate::request::Request;
+use crate::item::Kind;
+use crate::request::{Address, Request};
 
 /// A session whose name another client puts meanwhile: its only fragment is refused, and it lives on until it is
 /// cancelled.
@@ -24,6 +28,31 @@ pub fn session_overtaken()
 pub fn session_completed()
     ensures made { status_of_reply (answer_of opened_log 200 ten_bytes) ≡ 201 }
     ensures status { answer_of (opened_log ++ other ten_bytes ∷ []) 200 (Request.SessionStatus 1) ≡ refused (refuse 404 ErrorCode.ItemNotFound) }
+{}
+
+/// A deferred session: it is finished once all bytes came, its last fragment makes nothing, and it ends with its file.
+pub fn deferred_session_finished()
+    ensures early { answer_of deferred_log 200 (Request.Finish 1) ≡ refused (refuse 400 ErrorCode.InvalidRequest) }
+    ensures fragment { answer_of deferred_log 200 ten_bytes ≡ reply.More 10 }
+    ensures status { answer_of filled_log 200 (Request.SessionStatus 1) ≡ reply.Status 10 }
+    ensures nothing { number_of filled_log ≡ 1 }
+    ensures made { status_of_reply (answer_of filled_log 200 (Request.Finish 1)) ≡ 201 }
+    ensures again { answer_of finished_log 200 (Request.Finish 1) ≡ refused (refuse 404 ErrorCode.ItemNotFound) }
+    ensures not_deferred { answer_of opened_log 200 (Request.Finish 1) ≡ refused (refuse 400 ErrorCode.InvalidRequest) }
+{}
+
+/// A plain drive gives neither a digest nor a content tag.
+pub fn plain_drive_bare()
+    ensures { answer_of plain_log 200 (Request.Get (Address.ByPath (codes "a" ∷ []))) ≡ reply.Is (record {
+      id = item_id 2;
+      parent = Some (item_id 1);
+      parent_path = Some (codes "/drive/root:");
+      name = codes "a";
+      size = 1;
+      etag = tag_of (etag_text 2);
+      ctag = None;
+      kind = Kind.Bare;
+    }) }
 {}
 
 /// A file of 655,361 bytes in three fragments: a repeated fragment changes nothing, and the last one makes the file of

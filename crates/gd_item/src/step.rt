@@ -26,6 +26,8 @@ pub enum DriveEvent {
     Restore,
     /// The upload session ends.
     EndSession(u64),
+    /// From now on replies give neither digests nor content tags.
+    Plain,
 }
 
 impl Exact for DriveEvent {
