@@ -17,7 +17,7 @@ use Rattle.gd_item.specs.declared.digest.Digest.{Digest}
 use Rattle.gd_item.specs.declared.fault.StoreFault.{StoreFault}
 use Rattle.gd_item.specs.declared.fault.StoreFault.TheVariants.{Memory, NotFound, NotFile}
 use Rattle.gd_item.specs.declared.item.Item.{Item}
-use Rattle.gd_item.specs.declared.item.Kind.TheVariants.{File}
+use Rattle.gd_item.specs.declared.item.Kind.TheVariants.{File, Bare, Deleted}
 use Rattle.gd_item.specs.declared.live.LiveItem.{LiveItem}
 use Rattle.gd_store.specs.Stands as store
 use Rattle.gd_names.proofs.Each.{each, each-both}
@@ -89,6 +89,23 @@ file-at held item digest listed is =
     let same : live.number ≡ item.id.0 = ap (λ (i : Item). i.id.0) (sym listed.item_is) in
     let P : ℕ → Type 0 = λ n. IsFileAt held n in
     subst P same (record { live = live; bytes = bytes.0; above = listed.above; there = listed.there; bytes_are = bytes.1 })
+
+-- what is listed is neither bare nor deleted
+kind-bare : (bytes : Option (List ℕ)) (number : ℕ) (items : List LiveItem) → kind_at bytes number items ≡ Bare → ⊥
+kind-bare None number items is = cc is
+kind-bare (Some bytes) number items is = cc is
+
+kind-deleted : (bytes : Option (List ℕ)) (number : ℕ) (items : List LiveItem) → kind_at bytes number items ≡ Deleted → ⊥
+kind-deleted None number items is = cc is
+kind-deleted (Some bytes) number items is = cc is
+
+pub never-bare : (held : Inventory) (item : Item) → IsListed held item → item.kind ≡ Bare → ⊥
+never-bare held item listed is =
+    kind-bare listed.live.bytes listed.live.number held.items (ap (λ (i : Item). i.kind) (sym listed.item_is) ∙ is)
+
+pub never-deleted : (held : Inventory) (item : Item) → IsListed held item → item.kind ≡ Deleted → ⊥
+never-deleted held item listed is =
+    kind-deleted listed.live.bytes listed.live.number held.items (ap (λ (i : Item). i.kind) (sym listed.item_is) ∙ is)
 
 -- it is no folder, and has a version
 not-one : (n : ℕ) → 1 < n → nat_eq n 1 ≡ false

@@ -11,7 +11,7 @@ use Rattle.gd_item.specs.Sound.{IsItemMap}
 use Rattle.gd_item.specs.Versions.{content_at, version_at}
 use Rattle.gd_item.specs.declared.item.Item.{Item}
 use Rattle.gd_item.specs.declared.item.Kind.{Kind}
-use Rattle.gd_item.specs.declared.item.Kind.TheVariants.{Folder, File, Deleted}
+use Rattle.gd_item.specs.declared.item.Kind.TheVariants.{Folder, File, Bare, Deleted}
 use Rattle.gd_item.specs.declared.live.LiveItem.{LiveItem}
 use Rattle.gd_item.specs.declared.reply.Page.{Page}
 use Rattle.od_mirror.specs.Pulled.{taken_of}
@@ -21,6 +21,7 @@ use Rattle.od_cli.specs.Played.{content_line}
 abbrev pub kind_line : List (List ℕ) → ℕ → Kind → List ℕ
 kind_line path size (Folder child_count) = path_text path ++ codes "/\n"
 kind_line path size (File digest) = path_text path ++ codes " " ++ decimal size ++ codes " " ++ encode_lower digest.0 ++ codes "\n"
+kind_line path size Bare = path_text path ++ codes " " ++ decimal size ++ codes "\n"
 kind_line path size Deleted = []
 
 abbrev pub item_line : List (List ℕ) × Item → List ℕ
@@ -42,6 +43,7 @@ pub record IsWhole (page : Page) : Type 0 where
 abbrev pub shown_kind : Inventory → ℕ → Kind → Option (List ℕ)
 shown_kind held number (Folder child_count) = None
 shown_kind held number (File digest) = version_at number (content_at number held) held
+shown_kind held number Bare = None
 shown_kind held number Deleted = None
 
 -- the line of a record with its content

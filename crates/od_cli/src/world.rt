@@ -148,6 +148,7 @@ fn is_about_session(request: &Request) -> bool
         Request::Fragment { .. } => true,
         Request::SessionStatus { .. } => true,
         Request::CancelSession { .. } => true,
+        Request::Finish { .. } => true,
         _ => false,
     }
 }

@@ -17,8 +17,6 @@ mod receiving;
 mod rounds;
 mod scanning;
 mod syncing;
-#[cfg(test)]
-mod tests;
 mod waiting;
 
 pub use agreeing::agree;

@@ -1,0 +1,77 @@
+//! Drives of which nothing is told.
+ghost use Rattle.std.specs.Prelude.{◌≡◌, true, IfOk};
+ghost use Rattle.gd_item.specs.Requests.{kind_of};
+ghost use Rattle.od_transfer.specs.Asking.{is_last_link, may_answer};
+
+use gd_item::{ErrorCode, Item, ItemId, Kind, Page, PageLink, Reply, Request, Tag, digest_of};
+use gd_names::{Bytes, List, NoMemory, Text};
+use od_transfer::{AskFault, Carrier, Job, Outcome, Remote, carry_each};
+use std::alloc::Global;
+
+/// A drive without items. It lacks memory at its first requests.
+#[derive(Debug, Drop)]
+pub struct Empty {
+    pub wanting: u64,
+    pub answers: u64,
+}
+
+/// A drive with one file `a`.
+#[derive(Debug, Drop)]
+pub struct OneFile {
+    pub answers: u64,
+}
+
+fn root(alloc: Global) -> Result<Item, NoMemory> {
+    Ok(Item {
+        id: ItemId(1),
+        parent: None,
+        parent_path: None,
+        name: Text::from_str(alloc, "root")?,
+        size: 0,
+        etag: Tag(Text::from_str(alloc, "e1")?),
+        ctag: None,
+        kind: Kind::Folder { child_count: 0 },
+    })
+}
+
+fn file(alloc: Global) -> Result<Item, NoMemory> {
+    Ok(Item {
+        id: ItemId(2),
+        parent: Some(ItemId(1)),
+        parent_path: None,
+        name: Text::from_str(alloc, "a")?,
+        size: 3,
+        etag: Tag(Text::from_str(alloc, "e2")?),
+        ctag: Some(Tag(Text::from_str(alloc, "c2")?)),
+        kind: Kind::File {
+            digest: digest_of(b"abc"),
+        },
+    })
+}
+
+fn last_page(alloc: Global) -> Result<Page, NoMemory>
+    ensures { IfOk result (λ page. is_last_link page.link ≡ true) }
+{
+    let mut items = List::new(alloc);
+    items.push(root(alloc)?)?;
+    let link = PageLink::Delta(Text::from_str(alloc, "t1.1.1")?);
+    Ok(Page { items, link })
+}
+
+fn file_page(alloc: Global) -> Result<Page, NoMemory>
+    ensures { IfOk result (λ page. is_last_link page.link ≡ true) }
+{
+    let mut items = List::new(alloc);
+    items.push(root(alloc)?)?;
+    items.push(file(alloc)?)?;
+    let link = PageLink::Delta(Text::from_str(alloc, "t1.2.2")?);
+    Ok(Page { items, link })
+}
+
+/// That memory is wanting, which may come to every request.
+fn unserved() -> Reply {
+    Reply::Refused {
+        status: 503,
+        code: ErrorCode::GeneralException,
+    }
+}
