@@ -11,7 +11,7 @@ use Rattle.gd_item.specs.declared.request.Request.TheVariants.{Delta}
 use Rattle.gd_item.specs.declared.step.Step.{Step}
 use Rattle.gd_item.specs.declared.step.Step.TheVariants.{Ask}
 use Rattle.gd_item.specs.declared.step.Who.TheVariants.{Own}
-use Rattle.od_keeper.specs.Sound.{uncounted}
+use Rattle.gd_item.specs.Views.{uncounted}
 use Rattle.od_mirror.specs.Pulled.{paths_of}
 use Rattle.od_transfer.specs.Alone.{AreOwnServed}
 use Rattle.od_transfer.specs.Asking.{OwnAre}

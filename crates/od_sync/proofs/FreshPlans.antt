@@ -13,7 +13,7 @@ use Rattle.gd_item.specs.declared.step.Step.{Step}
 use Rattle.gd_names.proofs.Each.{each-so}
 use Rattle.gd_names.proofs.Ordered.{Path, Rises, rises-in-order-from}
 use Rattle.gd_store.proofs.Logs.{sound-log}
-use Rattle.od_keeper.specs.Sound.{uncounted}
+use Rattle.gd_item.specs.Views.{uncounted}
 use Rattle.od_mirror.specs.Drive.{placed_items}
 use Rattle.od_mirror.specs.Pulled.{paths_of}
 use Rattle.od_mirror.proofs.Mapped.{mapped}

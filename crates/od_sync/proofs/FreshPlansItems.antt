@@ -8,7 +8,7 @@ use Rattle.gd_item.specs.declared.item.Item.{Item}
 use Rattle.gd_item.specs.declared.item.Kind.{Kind}
 use Rattle.gd_item.specs.declared.item.Kind.TheVariants as kind
 use Rattle.gd_item.specs.declared.live.LiveItem.{LiveItem}
-use Rattle.od_keeper.specs.Sound.{uncounted, uncounted_kind}
+use Rattle.gd_item.specs.Views.{uncounted, uncounted_kind}
 use Rattle.od_mirror.specs.Pulled.{paths_of}
 use Rattle.gd_names.proofs.Each.{each-so}
 use Rattle.gd_names.proofs.Ordered.{Path}
@@ -30,6 +30,7 @@ same-paths items others same = sym (paths-uncounted items) ∙ ap paths_of same 
 folder-in-uncounted : (entry : Path × Item) (kind : Kind) → folder_in (entry.0, uncounted entry.1) (uncounted_kind kind) ≡ folder_in entry kind
 folder-in-uncounted entry (kind.Folder child_count) = refl
 folder-in-uncounted entry (kind.File digest) = refl
+folder-in-uncounted entry kind.Bare = refl
 folder-in-uncounted entry kind.Deleted = refl
 
 folders-uncounted : (entries : List (Path × Item)) → folders_of (mapped uncounted entries) ≡ folders_of entries
@@ -41,6 +42,7 @@ folders-uncounted (entry ∷ entries) =
 file-in-uncounted : (entry : Path × Item) (kind : Kind) → file_in (entry.0, uncounted entry.1) (uncounted_kind kind) ≡ file_in entry kind
 file-in-uncounted entry (kind.Folder child_count) = refl
 file-in-uncounted entry (kind.File digest) = refl
+file-in-uncounted entry kind.Bare = refl
 file-in-uncounted entry kind.Deleted = refl
 
 fetches-uncounted : (entries : List (Path × Item)) → fetches_of (mapped uncounted entries) ≡ fetches_of entries

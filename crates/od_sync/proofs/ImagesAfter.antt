@@ -18,7 +18,8 @@ use Rattle.gd_item.specs.declared.step.Step.{Step}
 use Rattle.gd_item.specs.declared.token.Token.{Token}
 use Rattle.od_keeper.proofs.Growing.{sound-stays}
 use Rattle.od_keeper.specs.Images.{by_id, by_path, put_by, put_in_order, put_all, without_ids, without_paths, replaced, reset_image, applied}
-use Rattle.od_keeper.specs.Sound.{uncounted, IsAccepted, TokenIs, ItemsAre, IsSound}
+use Rattle.gd_item.specs.Views.{uncounted, TokenIs, ItemsAre}
+use Rattle.od_keeper.specs.Sound.{IsAccepted, IsSound}
 use Rattle.od_keeper.specs.declared.image.Agreed.{Agreed}
 use Rattle.od_keeper.specs.declared.image.Agreed.TheVariants as agreed
 use Rattle.od_keeper.specs.declared.image.BaseRow.{BaseRow}
@@ -132,11 +133,13 @@ file-if versions false digest other is accepted = tt
 file-accepted : (versions : List Version) (digest : Digest) (kind : Kind) → IsKindAccepted versions kind → WhereAgreed versions (agreed_file digest kind)
 file-accepted versions digest (kind.Folder child_count) accepted = tt
 file-accepted versions digest (kind.File other) accepted = file-if versions (is_digest digest other) digest other refl accepted
+file-accepted versions digest kind.Bare accepted = tt
 file-accepted versions digest kind.Deleted accepted = tt
 
 folder-accepted : (versions : List Version) (kind : Kind) → WhereAgreed versions (agreed_folder kind)
 folder-accepted versions (kind.Folder child_count) = tt
 folder-accepted versions (kind.File digest) = tt
+folder-accepted versions kind.Bare = tt
 folder-accepted versions kind.Deleted = tt
 
 node-accepted : (versions : List Version) (node : Node) (kind : Kind) → IsKindAccepted versions kind → WhereAgreed versions (agreed_node node kind)

@@ -14,7 +14,8 @@ use Rattle.gd_item.specs.declared.step.Step.TheVariants.{Ask}
 use Rattle.gd_item.specs.declared.step.Who.TheVariants.{Own}
 use Rattle.od_keeper.proofs.Growing.{sound-stays}
 use Rattle.od_keeper.specs.Images.{applied}
-use Rattle.od_keeper.specs.Sound.{IsSound, ItemsAre, IsAccepted}
+use Rattle.gd_item.specs.Views.{ItemsAre}
+use Rattle.od_keeper.specs.Sound.{IsSound, IsAccepted}
 use Rattle.od_keeper.specs.declared.image.BaseRow.{BaseRow}
 use Rattle.od_keeper.specs.declared.image.Change.{Change}
 use Rattle.od_keeper.specs.declared.image.Image.{Image}

@@ -18,7 +18,8 @@ use Rattle.gd_item.specs.declared.step.Step.{Step}
 use Rattle.od_keeper.proofs.Growing.{sound-stays, sound-empty}
 use Rattle.od_keeper.specs.Images.{applied, by_path, empty_image, put_all, without_paths}
 use Rattle.od_keeper.specs.Keeping.{Stay, last_image}
-use Rattle.od_keeper.specs.Sound.{IsSound, uncounted}
+use Rattle.gd_item.specs.Views.{uncounted}
+use Rattle.od_keeper.specs.Sound.{IsSound}
 use Rattle.od_keeper.specs.declared.image.BaseRow.{BaseRow}
 use Rattle.od_keeper.specs.declared.image.Image.{Image}
 use Rattle.od_mirror.specs.Pulled.{paths_of}

@@ -8,7 +8,7 @@ use Rattle.gd_item.specs.declared.digest.Digest.{Digest}
 use Rattle.gd_item.specs.declared.id.ItemId.{ItemId}
 use Rattle.gd_item.specs.declared.item.Item.{Item}
 use Rattle.gd_item.specs.declared.item.Kind.{Kind}
-use Rattle.gd_item.specs.declared.item.Kind.TheVariants.{Folder, File, Deleted}
+use Rattle.gd_item.specs.declared.item.Kind.TheVariants.{Folder, File, Bare, Deleted}
 use Rattle.gd_item.specs.declared.item.Tag.{Tag}
 use Rattle.od_sync.specs.PullChanges.{is_same_kind, is_same_item}
 
@@ -16,12 +16,19 @@ use Rattle.od_sync.specs.PullChanges.{is_same_kind, is_same_item}
 pub kinds-compared : (a b : Kind) → kinds.ghosts.eq a b ≡ is_same_kind a b
 kinds-compared (Folder m) (Folder n) = refl
 kinds-compared (Folder m) (File d) = refl
+kinds-compared (Folder m) Bare = refl
 kinds-compared (Folder m) Deleted = refl
 kinds-compared (File c) (Folder n) = refl
 kinds-compared (File c) (File d) = refl
+kinds-compared (File c) Bare = refl
 kinds-compared (File c) Deleted = refl
+kinds-compared Bare (Folder n) = refl
+kinds-compared Bare (File d) = refl
+kinds-compared Bare Bare = refl
+kinds-compared Bare Deleted = refl
 kinds-compared Deleted (Folder n) = refl
 kinds-compared Deleted (File d) = refl
+kinds-compared Deleted Bare = refl
 kinds-compared Deleted Deleted = refl
 
 both : (a b : Bool) → (a && b) ≡ true → (a ≡ true) × (b ≡ true)
@@ -49,12 +56,19 @@ digests-same a b is = ap (λ (bytes : List ℕ). record { 0 = bytes }) (texts-sa
 kinds-same : (a b : Kind) → is_same_kind a b ≡ true → a ≡ b
 kinds-same (Folder m) (Folder n) is = ap (λ k. Folder k) (eqb-true m n is)
 kinds-same (Folder m) (File d) is = absurd (cc is)
+kinds-same (Folder m) Bare is = absurd (cc is)
 kinds-same (Folder m) Deleted is = absurd (cc is)
 kinds-same (File c) (Folder n) is = absurd (cc is)
 kinds-same (File c) (File d) is = ap (λ x. File x) (digests-same c d is)
+kinds-same (File c) Bare is = absurd (cc is)
 kinds-same (File c) Deleted is = absurd (cc is)
+kinds-same Bare (Folder n) is = absurd (cc is)
+kinds-same Bare (File d) is = absurd (cc is)
+kinds-same Bare Bare is = refl
+kinds-same Bare Deleted is = absurd (cc is)
 kinds-same Deleted (Folder n) is = absurd (cc is)
 kinds-same Deleted (File d) is = absurd (cc is)
+kinds-same Deleted Bare is = absurd (cc is)
 kinds-same Deleted Deleted is = refl
 
 -- an item of its parts

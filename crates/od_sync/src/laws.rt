@@ -13,7 +13,7 @@ ghost use Rattle.gd_item.specs.declared.reply.Reply.{Reply};
 ghost use Rattle.gd_item.specs.declared.request.Request.{Request};
 ghost use Rattle.gd_item.specs.declared.step.Step.{Step};
 ghost use Rattle.gd_item.specs.declared.step.Who.{Who};
-ghost use Rattle.od_keeper.specs.Sound.{ItemsAre, uncounted};
+ghost use Rattle.gd_item.specs.Views.{ItemsAre, uncounted};
 ghost use Rattle.od_mirror.specs.Pulled.{paths_of};
 ghost use Rattle.od_mirror.specs.declared.view.MirrorView.{MirrorView};
 ghost use Rattle.od_transfer.specs.Alone.{AreOwnServed};
