@@ -21,6 +21,7 @@ use Rattle.od_sync.proofs.Below.{from-self}
 use Rattle.od_sync.proofs.FreshPlansHeld.{IsAt, item_bytes}
 use Rattle.od_sync.proofs.FreshPlansTrees.{file_of, files, folder_of, folders}
 use Rattle.od_sync.proofs.Uncounted.{paths-uncounted}
+use Rattle.std.proofs.lemmas.Bool.{or_right}
 
 -- ---- the numbers of children do not count
 -- the paths of items that are the same but for the numbers of children
@@ -66,16 +67,12 @@ filter-all test (entry ∷ entries) all =
 abbrev is_above_any : List (Path × Item) → Path × Item → Bool
 is_above_any entries entry = list_any (λ (other : Path × Item). is_from entry.0 other.0 && true) entries
 
-or-later : (a b : Bool) → b ≡ true → (a || b) ≡ true
-or-later true b is = refl
-or-later false b is = is
-
 all-above-any : (entries : List (Path × Item)) → AllByRecursion (λ (entry : Path × Item). is_above_any entries entry ≡ true) entries
 all-above-any [] = tt
 all-above-any (first ∷ entries) = (
   ap (λ b. (b && true) || is_above_any entries first) (from-self first.0),
   each-so (λ (entry : Path × Item). is_above_any entries entry ≡ true) (λ (entry : Path × Item). is_above_any (first ∷ entries) entry ≡ true)
-      (λ entry is. or-later (is_from entry.0 first.0 && true) (is_above_any entries entry) is) entries (all-above-any entries),
+      (λ entry is. or_right (is_from entry.0 first.0 && true) (is_above_any entries entry) is) entries (all-above-any entries),
 )
 
 pub folders-fresh : (entries : List (Path × Item)) → planned_folders [] [] entries ≡ folders_of entries

@@ -29,8 +29,9 @@ use Rattle.od_sync.specs.declared.planning.Fetching.{Fetching}
 use Rattle.od_sync.specs.declared.scanning.Node.{Node}
 use Rattle.od_sync.specs.declared.scanning.Node.TheVariants.{Folder, File}
 use Rattle.gd_names.proofs.Each.{each-so}
-use Rattle.od_sync.proofs.Compared.{both, same-file, same-path}
+use Rattle.od_sync.proofs.Compared.{same-file, same-path}
 use Rattle.od_sync.proofs.SameTrees.{drive-as-found}
+use Rattle.std.proofs.lemmas.Bool.{and_parts}
 
 abbrev Entry : Type 0
 Entry = List (List ℕ) × Item
@@ -68,8 +69,8 @@ entries-shown nodes [] [] there is = All-nil (IsEntryShown nodes)
 entries-shown nodes [] (b ∷ remote) there is = absurd (cc is)
 entries-shown nodes (a ∷ found) [] there is = absurd (cc is)
 entries-shown nodes (a ∷ found) (b ∷ remote) there is =
-    let first = both (is_same_entry a b) (is_same found remote) is in
-    let parts = both (pointwise (pointwise nat_eq) a.0 b.0) (is_same_node a.1 b.1.kind) first.0 in
+    let first = and_parts (is_same_entry a b) (is_same found remote) is in
+    let parts = and_parts (pointwise (pointwise nat_eq) a.0 b.0) (is_same_node a.1 b.1.kind) first.0 in
     All-cons (IsEntryShown nodes) b remote
     (kind-shown nodes b.0 a.1 b.1.kind
     (subst (λ (path : List (List ℕ)). Contains nodes (path, a.1)) (same-path a.0 b.0 parts.0) (All-head (Contains nodes) a found there)) parts.1)

@@ -66,7 +66,7 @@ use Rattle.od_sync.proofs.LooksFound.{unlike-then, until-append, until-makes, un
 use Rattle.od_sync.proofs.Made.{makes-steps}
 use Rattle.od_sync.proofs.PlannedKinds.{IsKindIn, fetches-accepted}
 use Rattle.od_sync.proofs.ServedTokens.{is-served}
-use Rattle.od_sync.proofs.CountsRose.{rose-later}
+use Rattle.gd_names.proofs.Streams.{rose-later}
 
 -- the folder's log grows by what a plan makes after a look
 abbrev PlanMade : Sides → List LocalStep → Option (List LocalStep) → Type 0

@@ -32,7 +32,7 @@ use Rattle.od_sync.proofs.Rounding.{drive-then, images-then, local-then, met-beg
 use Rattle.od_sync.proofs.Sends.{last-append}
 use Rattle.od_sync.proofs.LooksFound.{same-then, unlike-then, until-append, whole-then, within-then}
 use Rattle.od_sync.proofs.ServedTokens.{is-served}
-use Rattle.od_sync.proofs.CountsRose.{rose-on}
+use Rattle.gd_names.proofs.Streams.{rose-on}
 
 -- ---- one round more, after which the others are known
 later-unserved : (first second : List Step) → EndsWithUnserved second → EndsWithUnserved (first ++ second)

@@ -1,6 +1,6 @@
 -- One send of a request for changes, and one after others.
 use Rattle.std.proofs.Common.{◌≡◌, ℕ, zero, suc, ◌+◌, ◌<◌, ◌≤◌, ◌⊎◌, inl, inr, Bool, true, false, cond, nat_eq, List, [], ◌∷◌, ◌++◌, count_by, Option, Some, None, Ok, Err, Result, refl, ap, sym, subst, ◌∙◌, append_assoc, arith}
-use Rattle.std.proofs.lemmas.Bool.{eqb-true}
+use Rattle.std.proofs.lemmas.Bool.{and_parts, eqb-true}
 use Rattle.std.proofs.lemmas.List.Sums.{sum_by-cons}
 use Rattle.std.specs.List.{AllByRecursion}
 use Rattle.std.specs.Result.{IsErr, IsErrAnd}
@@ -26,7 +26,6 @@ use Rattle.od_sync.specs.declared.delta.DeltaFault.TheVariants.{LinkFault, Unser
 use Rattle.od_transfer.proofs.Logs.{such-others, such-also, such-append}
 use Rattle.od_sync.specs.Deltas.{AskedDelta, AsksDelta, IsAskedWith, is_delta, is_own_delta, is_answered_delta, DeltaAsks, page_in, last_heard_after, heard_step, IsSpent, Spent, SpentThrice, PageHeard, EndsUnserved, SendsOnce, Sent, is_last_page}
 use Rattle.od_sync.proofs.Chained.{chain-page, chain-spent, last-token}
-use Rattle.od_sync.proofs.Compared.{both}
 use Rattle.od_sync.proofs.Growth.{count-append}
 
 -- ---- what a drive answers that is asked for changes
@@ -92,7 +91,7 @@ others-sent : (steps : List Step) (most : ℕ) → ByOthers steps → count_by i
 others-sent steps most by = omega (arith, none-counted (IsSuch Never) is_own_delta others-unsent steps by)
 
 -- what had no page was not answered
-spent-step : (request : Request) (step : Step) → IsSuch (IsSpent request) step → is_answered_delta step ≡ false
+pub spent-step : (request : Request) (step : Step) → IsSuch (IsSpent request) step → is_answered_delta step ≡ false
 spent-step request (Ask Own sent true true) spent = absurd (cc (spent.1 refl))
 spent-step request (Ask Own sent true false) spent = refl
 spent-step request (Ask Own sent false heard) spent = refl
@@ -142,7 +141,7 @@ spent-served token status code old part after size false number by grown is = re
 
 spent-reply : (request : Request) (r : Reply) (old : List Step) (after : Option (List Step)) → is_delta request ≡ true → may_answer request r ≡ true → page_in r ≡ Some None → Heard Never request old after r → Spent request 1 1 old after
 spent-reply (Delta token) (reply.Refused status code) old after is may in_reply h =
-    spent-served token status code old h.part after h.size h.served (eqb-true status 503 (both (nat_eq status 503) (has_status code status) may).0) h.such h.grown h.reply_is
+    spent-served token status code old h.part after h.size h.served (eqb-true status 503 (and_parts (nat_eq status 503) (has_status code status) may).0) h.such h.grown h.reply_is
 spent-reply (Delta token) (reply.Page page) old after is may in_reply h = absurd (cc in_reply)
 spent-reply (Delta token) r old after is may in_reply h = absurd (cc may)
 spent-reply request r old after is may in_reply h = absurd (cc is)
