@@ -25,9 +25,9 @@ use Rattle.gd_item.proofs.Effects.{inventory-snoc, inventory-append, number-posi
 use Rattle.gd_item.proofs.Moving.{sound-moved}
 use Rattle.gd_item.proofs.Removing.{sound-removed-log}
 use Rattle.gd_item.proofs.Soundness.{sound-new}
-use Rattle.gd_store.proofs.Allowed.{clear, un-not}
-use Rattle.gd_store.proofs.Sounds.{make-sound, put-over-sound, put-under-sound, removals-light}
-use Rattle.gd_store.proofs.Steps.{IsSound}
+use Rattle.gd_laws.proofs.Allowed.{clear, un-not}
+use Rattle.gd_laws.proofs.Sounds.{make-sound, put-over-sound, put-under-sound, removals-light}
+use Rattle.gd_laws.proofs.Steps.{IsSound}
 use Rattle.gd_store.specs.Stands.{Stands}
 
 -- what no refusal tells of its parts

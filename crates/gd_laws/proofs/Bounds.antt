@@ -25,8 +25,8 @@ use Rattle.gd_item.specs.declared.step.Step.{Step}
 use Rattle.gd_item.specs.declared.step.Step.TheVariants.{Ask, Event}
 use Rattle.gd_item.proofs.Effects.{number-inventory}
 use Rattle.gd_item.proofs.LogsGrow.{later-steps}
-use Rattle.gd_store.proofs.Allowed.{clear, has-room, not-below, next-number, number-to-make, may-put}
-use Rattle.gd_store.proofs.Sounds.{may-move}
+use Rattle.gd_laws.proofs.Allowed.{clear, has-room, not-below, next-number, number-to-make, may-put}
+use Rattle.gd_laws.proofs.Sounds.{may-move}
 
 -- what no refusal tells of its parts
 pub mapped-none : {X Y : Type 0} (f : X → Y) (x : Option X) → option_map f x ≡ None → None ≡ x

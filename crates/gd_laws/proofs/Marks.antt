@@ -8,7 +8,7 @@ use Rattle.gd_item.specs.declared.live.LiveItem.{LiveItem}
 use Rattle.gd_item.specs.declared.live.Tombstone.{Tombstone}
 use Rattle.gd_names.proofs.Each.{each-so, each-append}
 use Rattle.gd_item.proofs.Soundness.{with_added}
-use Rattle.od_sync.proofs.KeptPullLive.{lacking, each-changed, each-lacking, Rising, rising-append, rising-changed, rising-lacking, of-living, none-changed, none-lacking, gone-lacking, none-append}
+use Rattle.gd_laws.proofs.Living.{lacking, each-changed, each-lacking, Rising, rising-append, rising-changed, rising-lacking, of-living, none-changed, none-lacking, gone-lacking, none-append}
 
 pub record IsLiving (held : Inventory) (item : LiveItem) : Type 0 where
   pub above : 1 < item.number

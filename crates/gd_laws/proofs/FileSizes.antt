@@ -25,8 +25,8 @@ use Rattle.gd_item.specs.declared.step.DriveEvent.TheVariants.{Expire, Restore, 
 use Rattle.gd_item.specs.declared.step.Step.{Step}
 use Rattle.gd_item.specs.declared.step.Step.TheVariants.{Ask, Event}
 use Rattle.gd_item.proofs.Effects.{inventory-append}
-use Rattle.gd_store.proofs.Allowed.{clear, neither, not-below, un-not}
-use Rattle.od_sync.proofs.KeptPullBounds.{mapped-none, neither-refuses, none-from}
+use Rattle.gd_laws.proofs.Allowed.{clear, neither, not-below, un-not}
+use Rattle.gd_laws.proofs.Bounds.{mapped-none, neither-refuses, none-from}
 
 -- ---- items and effects that bring few bytes
 abbrev IsSmall : LiveItem → Type 0

@@ -9,8 +9,7 @@ use Rattle.gd_item.specs.Inventory.{Inventory, Effect, MadeFolder, PutNew, PutOv
 use Rattle.gd_item.specs.Records.{record_of, records_of}
 use Rattle.gd_item.specs.declared.item.Item.{Item}
 use Rattle.gd_item.specs.declared.live.LiveItem.{LiveItem}
-use Rattle.od_keeper.specs.Sound.{uncounted}
-use Rattle.od_sync.specs.PullChanges.{ItemsRise}
+use Rattle.gd_item.specs.Views.{uncounted}
 
 -- numbers that rise from one above the first up to one below the last
 abbrev Rise : ℕ → List LiveItem → ℕ → Type 0
@@ -85,14 +84,10 @@ unfolding IsStrictlySortedBy
 sorted-from low [] high rise = (tt, tt)
 sorted-from low (item ∷ items) high rise = (above-all low (item ∷ items) high rise, sorted-from item.number items high rise.1)
 
-pub records-rise : (items : List Item) (effects : List Effect) → map uncounted items ≡ map uncounted (records_of (inventory effects)) → ItemsRise items
+pub records-rise : (items : List Item) (effects : List Effect) → map uncounted items ≡ map uncounted (records_of (inventory effects)) → IsStrictlySortedBy nat_cmp (map (λ (item : Item). item.id.0) items)
 records-rise items effects same =
     let held : Inventory = inventory effects in
     let at : 1 ∷ numbers held.items ≡ ids items =
     ap (λ ns. 1 ∷ ns) (sym (ids-records held.items held.items)) ∙ sym (ids-uncounted (records_of held)) ∙ ap ids (sym same) ∙ ids-uncounted items
     in
     subst (IsStrictlySortedBy nat_cmp) at (sorted-from 1 held.items held.next (rising-all new_drive effects rising-new))
-
-pub none-rise : ItemsRise []
-unfolding IsStrictlySortedBy
-none-rise = tt

@@ -1,0 +1,11 @@
+pub mod Allowed
+pub mod Bounds
+pub mod Counts
+pub mod FileSizes
+pub mod Files
+pub mod Living
+pub mod Logs
+pub mod Marks
+pub mod RisingNumbers
+pub mod Since
+pub mod Sounds
