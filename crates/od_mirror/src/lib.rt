@@ -9,6 +9,3 @@ mod view;
 pub use laws::a_feed_gives_the_drive;
 pub use mirror::{Mirror, PullFault, Taken};
 pub use view::MirrorView;
-
-#[cfg(test)]
-mod tests;

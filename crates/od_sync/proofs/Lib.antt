@@ -19,7 +19,6 @@ pub mod Placed
 pub mod RowsPut
 pub mod KeptImages
 pub mod ImagesAfter
-pub mod LastImages
 pub mod Batched
 pub mod Done
 pub mod SyncAlone

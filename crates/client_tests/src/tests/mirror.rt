@@ -1,6 +1,6 @@
-use super::*;
 use gd_item::{Digest, Item, ItemId, Kind, Page, PageLink, Tag};
 use gd_names::{List, NoMemory, Path, Text};
+use od_mirror::{Mirror, MirrorView, PullFault, Taken};
 use std::alloc::{AllocError, Global};
 use std::test::Fail;
 

@@ -1,6 +1,6 @@
 use Rattle.std.proofs.Common.{◌∙◌, refl}
 use Rattle.od_mirror.proofs.Rising.{rise-values, least-bad-is}
-use Rattle.od_mirror.proofs.mirror.fitting.Goals as goal
+use Rattle.od_mirror.proofs.mirror.all_fitting.Goals as goal
 
 pub first_bad-requires : goal.first_bad-requires
 first_bad-requires c =
