@@ -1,0 +1,5 @@
+pub mod Changes
+pub mod Given
+pub mod Order
+pub mod Placed
+pub mod Served
