@@ -1,4 +1,5 @@
 pub mod Changes
+pub mod EveryDrive
 pub mod Given
 pub mod Order
 pub mod Placed
