@@ -23,7 +23,7 @@ fn view_of(alloc: Global, page: &Page) -> Result<MirrorView, NoMemory>
     requires { IsWhole page.now }
     ensures { IfOk result (λ view. view.items ≡ values_of (with_records [] page.now.items)) }
 {
-    let mut mirror = Mirror::start(alloc, List::new(alloc), None)?;
+    let mut mirror = Mirror::start(alloc, List::new(alloc), None);
     match mirror.take_page(page)? {
         Taken::Last => {}
         Taken::More => unreachable!(),

@@ -9,18 +9,12 @@ use Rattle.gd_item.specs.declared.item.Item.{Item}
 use Rattle.gd_item.specs.declared.reply.Page.{Page}
 use Rattle.gd_item.specs.declared.request.Request.TheVariants.{Delta}
 use Rattle.gd_item.specs.declared.step.Step.{Step}
-use Rattle.od_mirror.specs.Pulled.{Pulled, begun, after_page, nodes, AllFit, IsLeastBad}
+use Rattle.od_mirror.specs.Pulled.{begun, after_page, nodes, IsLeastBad, IsView}
 use Rattle.od_mirror.specs.declared.view.MirrorView.{MirrorView}
 use Rattle.od_transfer.specs.Asking.{RoseBy, is_last_link}
 use Rattle.od_sync.specs.Deltas.{PageHeard, EndsUnserved}
 use Rattle.od_sync.specs.declared.pulling.PullStop.{PullStop}
 use Rattle.od_sync.specs.declared.pulling.PullStop.TheVariants.{LinkFault, Unserved, BadPages}
-
--- a view is what was pulled
-pub record IsView (pulled : Pulled) (view : MirrorView) : Type 0 where
-  pub items : view.items ≡ values_of pulled.items
-  pub token : Some view.token ≡ pulled.last
-  pub fit : AllFit (nodes view.items)
 
 -- a last page that was heard, after sends without one
 pub record LastPage (token : Option (List ℕ)) (old : List Step) (after : Option (List Step)) : Type 0 where
