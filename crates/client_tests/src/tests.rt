@@ -1,6 +1,8 @@
 ghost use Rattle.std.specs.Prelude.{◌<◌, length, IfOk};
 
 mod drives;
+mod keeper;
+mod mirror;
 mod replay;
 mod script;
 mod sync;

@@ -68,10 +68,92 @@ fn file_page(alloc: Global) -> Result<Page, NoMemory>
     Ok(Page { items, link })
 }
 
-/// That memory is wanting, which may come to every request.
-fn unserved() -> Reply {
-    Reply::Refused {
-        status: 503,
-        code: ErrorCode::GeneralException,
+fn empty_reply(alloc: Global, request: &Request, wanting: bool) -> Result<Reply, NoMemory>
+    ensures { IfOk result (λ reply. may_answer request.now reply ≡ true) }
+{
+    if wanting {
+        return Ok(Reply::Refused {
+            status: 503,
+            code: ErrorCode::GeneralException,
+        });
+    }
+    match request {
+        Request::Delta { .. } => Ok(Reply::Page(last_page(alloc)?)),
+        _ => Ok(Reply::Refused {
+            status: 404,
+            code: ErrorCode::ItemNotFound,
+        }),
+    }
+}
+
+fn file_reply(alloc: Global, request: &Request) -> Result<Reply, NoMemory>
+    ensures { IfOk result (λ reply. may_answer request.now reply ≡ true) }
+{
+    match request {
+        Request::Delta { .. } => Ok(Reply::Page(file_page(alloc)?)),
+        Request::Content { .. } => Ok(Reply::Found {
+            id: ItemId(2),
+            version: 2,
+        }),
+        Request::Download { .. } => Ok(Reply::Content(Bytes::from_slice(alloc, b"abc")?)),
+        _ => Ok(Reply::Refused {
+            status: 404,
+            code: ErrorCode::ItemNotFound,
+        }),
+    }
+}
+
+impl Remote for Empty {
+    ghost use Rattle.std.specs.Prelude.{None, false};
+
+    ghost log = { λ r. None };
+
+    ghost faults = { λ r. 0 };
+
+    ghost answers = { λ r. r.answers };
+
+    ghost in_row = { λ r. 0 };
+
+    ghost undisturbed = { λ r. false };
+
+    fn ask(&mut self, alloc: Global, request: &Request) -> Result<Reply, AskFault> {
+        match empty_reply(alloc, request, self.wanting > 0) {
+            Ok(reply) => {
+                self.wanting = self.wanting.saturating_sub(1);
+                self.answers = self.answers.saturating_add(1);
+                Ok(reply)
+            }
+            Err(NoMemory) => Err(AskFault::Memory),
+        }
+    }
+}
+
+impl Remote for OneFile {
+    ghost use Rattle.std.specs.Prelude.{None, false};
+
+    ghost log = { λ r. None };
+
+    ghost faults = { λ r. 0 };
+
+    ghost answers = { λ r. r.answers };
+
+    ghost in_row = { λ r. 0 };
+
+    ghost undisturbed = { λ r. false };
+
+    fn ask(&mut self, alloc: Global, request: &Request) -> Result<Reply, AskFault> {
+        match file_reply(alloc, request) {
+            Ok(reply) => {
+                self.answers = self.answers.saturating_add(1);
+                Ok(reply)
+            }
+            Err(NoMemory) => Err(AskFault::Memory),
+        }
+    }
+}
+
+impl Carrier for OneFile {
+    fn carry(&mut self, alloc: Global, jobs: &List<Job>) -> Result<List<Outcome>, NoMemory> {
+        carry_each(self, alloc, jobs)
     }
 }
