@@ -4,11 +4,12 @@ pub mod Climbs
 pub mod Counts
 pub mod Feeds
 pub mod Files
+pub mod Given
 pub mod Gives
 pub mod Insides
 pub mod Listing
-pub mod Logs
 pub mod Overwriting
 pub mod Removals
 pub mod Sounds
 pub mod Steps
+pub mod There
