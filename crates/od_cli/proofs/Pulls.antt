@@ -1,8 +1,6 @@
 -- A fresh pull gives what the drive holds.
-use Rattle.std.proofs.Common.{◌≡◌, ℕ, ◌+◌, ◌-◌, ◌≤◌, Bool, true, false, cond, nat_lt, List, [], length, slice_index, is_some, Option, Some, None, refl, sym, ap, ◌∙◌, subst, arith}
-use Rattle.std.proofs.lemmas.List.{take_all}
-use Rattle.std.proofs.lemmas.Map.Entries.{length-values_of}
-use Rattle.std.specs.Map.{keys_of, values_of}
+use Rattle.std.proofs.Common.{◌≡◌, ℕ, ◌+◌, true, false, List, [], length, Option, None, refl, sym, ap, ◌∙◌, subst}
+use Rattle.std.specs.Map.{values_of}
 use Rattle.gd_item.specs.Inventory.{Inventory, Effect, inventory}
 use Rattle.gd_item.specs.Records.{feed, first_of, last_of}
 use Rattle.gd_item.specs.Sound.{IsItemMap}
@@ -17,8 +15,8 @@ use Rattle.gd_item.specs.declared.request.Request.TheVariants.{Delta}
 use Rattle.gd_item.specs.declared.step.Step.{Step}
 use Rattle.gd_item.proofs.Effects.{number-inventory}
 use Rattle.gd_api.specs.WholePage.{answer_now}
+use Rattle.gd_api.proofs.OnePage.{all-given}
 use Rattle.gd_store.specs.Stands as store
-use Rattle.gd_store.proofs.Allowed.{not-below}
 use Rattle.gd_item.specs.Records.{records_of}
 use Rattle.od_mirror.specs.Pulled.{Pulled, begun, after_link, after_page, with_records, nodes, is_bad, IsLeastBad, taken_of}
 use Rattle.od_mirror.specs.declared.mirror.Taken.{Taken}
@@ -28,21 +26,6 @@ use Rattle.od_mirror.proofs.Standing.{records-fit}
 use Rattle.od_cli.specs.Pulled.{whole_items, IsWhole}
 use Rattle.od_cli.specs.Worlds.{page_size}
 use Rattle.od_cli.proofs.Removals.{no-removals}
-
-none-given : (b : Bool) (x : ℕ) → cond b (Some x) None ≡ None → b ≡ false
-none-given true x h = absurd cc
-none-given false x h = refl
-
-pub not-some : {T : Type 0} (found : Option T) → is_some found ≡ false → found ≡ None
-not-some None h = refl
-not-some (Some x) h = absurd cc
-
--- where no more follow all were given
-pub all-given : (most : ℕ) (changes : List (ℕ × Item)) → last_of most changes ≡ None → first_of most changes ≡ values_of changes
-all-given most changes none =
-    let few : length changes ≤ most = not-below most (length changes) (none-given (nat_lt most (length changes)) (slice_index (keys_of changes) (most - 1)) none) in
-    let same : length (values_of changes) ≡ length changes = length-values_of changes in
-    take_all most (values_of changes) (omega arith)
 
 -- the records are those of a fresh enumeration
 pub items-are : (items : List Item) (more : Option ℕ) (number most : ℕ) (log : List Effect) → number ≡ length log + 1

@@ -76,8 +76,8 @@ fn make_page(alloc: Global, store: &Store) -> Result<Page, NoMemory>
     let number = store.number();
     let (items, more) = store.changed_after(0, number, u64::MAX)?;
     if more.is_some() {
-        // More records than a list can hold.
-        return Err(NoMemory);
+        // No list has more records.
+        unreachable!();
     }
     let token = Text::from_str(alloc, "")?;
     Ok(Page {
