@@ -37,6 +37,7 @@ use Rattle.gd_item.specs.declared.step.Who.TheVariants.{Own}
 use Rattle.gd_item.specs.declared.token.Token.{Token}
 use Rattle.gd_api.specs.Drives.{DriveValue, Stands, Handles, is_about_session, is_refusal}
 use Rattle.gd_api.specs.WholePage.{answer_now, page_for_token, whole_delta, whole_page}
+use Rattle.gd_api.proofs.Handling.{answer-whole}
 use Rattle.od_transfer.specs.Asking.{has_status, may_answer_content, may_answer_download, may_answer_delta}
 use Rattle.od_transfer.specs.Undisturbed.{is_page, is_servable}
 use Rattle.od_cli.specs.Worlds.{WorldValue, IsDriveOf, IsOwnReply, heard, is_no_page, is_want_of_memory, page_size, unheard}
@@ -112,36 +113,39 @@ pub past-or-none : (state : State) (token : Option (List ℕ)) → state.epoch �
 past-or-none state None first kept = inl (0, (held state).number, refl, refl)
 past-or-none state (Some text) first kept = by-text state text (pointwise nat_eq text (codes "latest")) refl first kept
 
-not-below-self : (n : ℕ) → nat_lt n n ≡ false
-not-below-self n = grind (arith, nat_tests)
-
 -- the answer to such a token
-past-answer : (state : State) (size : ℕ) (token : Option (List ℕ)) (position start : ℕ) → asked state token ≡ Past position start → answer state size (Delta token) ≡ reply.Page (page_past state position start size)
-past-answer state size token position start is =
-    ap (λ a. answer_unless (cond (is_bad a) (Some (refuse 400 InvalidRequest)) None) state size (Delta token)) is ∙ ap (delta_reply state size) is
+past-answer : (state : State) (size : ℕ) (token : Option (List ℕ)) (position start : ℕ) → state.plain ≡ false → asked state token ≡ Past position start
+    → answer state size (Delta token) ≡ reply.Page (page_past state position start size)
+past-answer state size token position start whole is =
+    answer-whole state size (Delta token) whole (ap (λ a. cond (is_bad a) (Some (refuse 400 InvalidRequest)) None) is) ∙ ap (delta_reply state size) is
 
--- a page of the whole feed is one of the size of the feed
-whole-is : (state : State) (position start : ℕ) → state.epoch ≡ 1
-    → whole_page (held state) position start ≡ reply.Page (page_past state position start (length (feed (held state) position start)))
-whole-is state position start first =
+-- a page that has room for the whole feed has it
+not-less : (n size : ℕ) → n ≤ size → nat_lt size n ≡ false
+not-less n size few = grind (arith, nat_tests)
+
+whole-is : (state : State) (position start size : ℕ) → length (feed (held state) position start) ≤ size → state.epoch ≡ 1
+    → whole_page (held state) position start ≡ reply.Page (page_past state position start size)
+whole-is state position start size few first =
     let changes : List (ℕ × Item) = feed (held state) position start in
-    let all : values_of changes ≡ first_of (length changes) changes =
-    sym (take_all (length changes) (values_of changes) (let same : length (values_of changes) ≡ length changes = length-values_of changes in omega arith)) in
-    let last : None ≡ last_of (length changes) changes = ap (λ b. cond b (Some (slice_index (keys_of changes) (length changes - 1))) None) (sym (not-below-self (length changes))) in
+    let all : values_of changes ≡ first_of size changes =
+    sym (take_all size (values_of changes) (let same : length (values_of changes) ≡ length changes = length-values_of changes in omega arith)) in
+    let last : None ≡ last_of size changes = ap (λ b. cond b (Some (slice_index (keys_of changes) (size - 1))) None) (sym (not-less (length changes) size few)) in
     let at : List Item → ℕ → Option ℕ → Reply = λ items epoch more. reply.Page (record { items = items; link = page_link epoch start (held state).number more }) in
     λ i. at (all i) (sym first i) (last i)
 
-delta-reply : (state : State) (token : Option (List ℕ)) (given : Reply) → state.epoch ≡ 1 → state.floor ≡ 0 → given ≡ whole_delta (held state) token → is_no_page (Delta token) given ≡ false
+delta-reply : (state : State) (token : Option (List ℕ)) (given : Reply) → state.epoch ≡ 1 → state.floor ≡ 0 → state.plain ≡ false → given ≡ whole_delta (held state) token → is_no_page (Delta token) given ≡ false
     → IsOwnReply state (Delta token) given
-delta-reply state token given first kept is page = elim (past-or-none state token first kept) [
+delta-reply state token given first kept whole is page = elim (past-or-none state token first kept) [
   | inl past ↦
       let position : ℕ = past.0 in
       let start : ℕ = past.1 in
-      let size : ℕ = length (feed (held state) position start) in
-      let whole : given ≡ reply.Page (page_past state position start size) = is ∙ past.3 ∙ whole-is state position start first in
+      let size : ℕ = max 1 (length (feed (held state) position start)) in
+      let same : given ≡ reply.Page (page_past state position start size) = is ∙ past.3 ∙ whole-is state position start size (omega arith) first in
       record {
         size = size;
-        reply_is = whole ∙ sym (past-answer state size token position start past.2);
+        some = omega arith;
+        plain = whole;
+        reply_is = same ∙ sym (past-answer state size token position start whole past.2);
         kind = ap may_answer_delta (is ∙ past.3);
       }
   | inr none ↦ absurd (let refused : is_no_page (Delta token) given ≡ true = ap (is_no_page (Delta token)) (is ∙ none.1) in cc)

@@ -1,6 +1,7 @@
 -- One send of a request for changes, and one after others.
 use Rattle.std.proofs.Common.{◌≡◌, ℕ, zero, suc, ◌+◌, ◌<◌, ◌≤◌, ◌⊎◌, inl, inr, Bool, true, false, cond, nat_eq, List, [], ◌∷◌, ◌++◌, count_by, Option, Some, None, Ok, Err, Result, refl, ap, sym, subst, ◌∙◌, append_assoc, arith}
 use Rattle.std.proofs.lemmas.Bool.{and_parts, eqb-true}
+use Rattle.std.proofs.lemmas.List.{append-nil}
 use Rattle.std.proofs.lemmas.List.Sums.{sum_by-cons}
 use Rattle.std.specs.List.{AllByRecursion}
 use Rattle.std.specs.Result.{IsErr, IsErrAnd}
@@ -24,8 +25,9 @@ use Rattle.od_transfer.specs.declared.remote.AskFault.{AskFault}
 use Rattle.od_sync.specs.declared.delta.DeltaFault.{DeltaFault}
 use Rattle.od_sync.specs.declared.delta.DeltaFault.TheVariants.{LinkFault, Unserved, Memory}
 use Rattle.od_transfer.proofs.Logs.{such-others, such-also, such-append}
-use Rattle.od_sync.specs.Deltas.{AskedDelta, AsksDelta, IsAskedWith, is_delta, is_own_delta, is_answered_delta, DeltaAsks, page_in, last_heard_after, heard_step, IsSpent, Spent, SpentThrice, PageHeard, EndsUnserved, SendsOnce, Sent, is_last_page}
-use Rattle.od_sync.proofs.Chained.{chain-page, chain-spent, last-token}
+use Rattle.od_sync.specs.Chains.{Chained}
+use Rattle.od_sync.specs.Deltas.{AskedDelta, AsksDelta, IsAskedWith, is_delta, is_own_delta, is_answered_delta, DeltaAsks, page_in, last_heard_after, heard_step, IsSpent, Spent, Untaken, PageHeard, EndsUnserved, SendsOnce, Sent, is_last_page}
+use Rattle.od_sync.proofs.Chained.{chained-all, chain-lost, chain-page, chain-spent, last-token}
 use Rattle.od_sync.proofs.Growth.{count-append}
 
 -- ---- what a drive answers that is asked for changes
@@ -102,11 +104,11 @@ spent-unanswered : (request : Request) (steps : List Step) (most : ℕ) → OwnA
 spent-unanswered request steps most such = omega (arith, none-counted (IsSuch (IsSpent request)) is_answered_delta (spent-step request) steps such)
 
 -- ---- one send
-heard-page : (request : Request) (page : Page) (old part : List Step) (after : Option (List Step)) (size : ℕ) (served : Bool) → ByOthers part
+heard-page : (request : Request) (page : Page) (old part : List Step) (after : Option (List Step)) (size : ℕ) (served : Bool) → ByOthers part → (state_of (old ++ part)).plain ≡ false
     → after ≡ Some ((old ++ part) ++ Ask Own request served true ∷ []) → reply.Page page ≡ given served (old ++ part) size request → PageHeard 0 request old after page
-heard-page request page old part after size true by grown is =
-    record { part = part; such = such-others (IsSpent request) part by; sent = others-sent part 0 by; size = size; grown = grown; page_is = is }
-heard-page request page old part after size false by grown is = absurd (cc is)
+heard-page request page old part after size true by plain grown is =
+    record { part = part; such = such-others (IsSpent request) part by; sent = others-sent part 0 by; size = size; grown = grown; plain = plain; page_is = is }
+heard-page request page old part after size false by plain grown is = absurd (cc is)
 
 page-of : (request : Request) (r : Reply) (page : Page) → is_delta request ≡ true → may_answer request r ≡ true → page_in r ≡ Some (Some page) → (r ≡ reply.Page page) × (is_last_link page.link ≡ true)
 page-of (Delta token) (reply.Page first) page is may in_reply =
@@ -122,7 +124,7 @@ sent-page request r page before after is may in_reply asks =
     let paged = page-of request r page is may in_reply in
     record {
       last_page = paged.1;
-      ok = λ old told. let h = asks.ok old told in heard-page request page old h.part after h.size h.served h.such h.grown (sym paged.0 ∙ h.reply_is);
+      ok = λ old told. let h = asks.ok old told in heard-page request page old h.part after h.size h.served h.such h.plain h.grown (sym paged.0 ∙ h.reply_is);
       err = tt;
     }
 
@@ -208,11 +210,34 @@ page-more request n a page old middle after few first later =
       sent = omega (arith, few, first.sent, second.sent, count-append is_own_delta first.part second.part);
       size = second.size;
       grown = second.grown ∙ ap (λ log. Some (log ++ Ask Own request true true ∷ [])) (append_assoc old first.part second.part);
+      plain = subst (λ (log : List Step). (state_of log).plain ≡ false) (append_assoc old first.part second.part) second.plain;
       page_is = second.page_is ∙ ap (λ log. answer_of log second.size request) (append_assoc old first.part second.part);
     }
 
-spent-thrice : (request : Request) (n a : ℕ) (old : List Step) (after : Option (List Step)) → n ≤ 3 → Spent request n a old after → SpentThrice request old after
-spent-thrice request n a old after few s = record { part = s.part; such = s.such; sent = omega (arith, s.sent, few); grown = s.grown }
+spent-thrice : (request : Request) (n a : ℕ) (old : List Step) (after : Option (List Step)) → n ≤ 3 → Spent request n a old after → Untaken request 3 old after
+spent-thrice request n a old after few s = record {
+  part = s.part;
+  such = s.such;
+  lost = [];
+  lost_is = inl refl;
+  sent = omega (arith, count-append is_own_delta s.part [], s.sent, few);
+  grown = s.grown ∙ ap (λ steps. Some (old ++ steps)) (sym (append-nil s.part));
+}
+
+untaken-more : (request : Request) (n a : ℕ) (old : List Step) (middle after : Option (List Step)) → n < 3 → Spent request n a old middle
+    → ((now : List Step) → middle ≡ Some now → Untaken request 1 now after) → Untaken request 3 old after
+untaken-more request n a old middle after few first later =
+    let second = later (old ++ first.part) first.grown in
+    record {
+      part = first.part ++ second.part;
+      such = such-append (IsSpent request) first.part second.part first.such second.such;
+      lost = second.lost;
+      lost_is = second.lost_is;
+      sent = omega (arith, few, first.sent, second.sent, count-append is_own_delta (first.part ++ second.part) second.lost, count-append is_own_delta first.part second.part, count-append is_own_delta second.part second.lost);
+      grown = second.grown
+          ∙ ap (λ log. Some log) (append_assoc old first.part (second.part ++ second.lost))
+          ∙ ap (λ steps. Some (old ++ steps)) (sym (append_assoc first.part second.part second.lost));
+    }
 
 pub spent-asks : (request : Request) (n a : ℕ) (old : List Step) (after : Option (List Step)) → 0 < a → Spent request n a old after → EndsUnserved request old after
 spent-asks request n a old after some s = record { part = s.part; grown = s.grown; last = s.last some }
@@ -242,7 +267,7 @@ asks-stopped request n a result before middle after e few memory first once = su
   last_page = tt;
   ok = tt;
   unserved = λ is. absurd (cc is);
-  err = λ old told. spent-thrice request (n + 1) (a + 0) old after (omega (arith, few)) (spent-more request n 1 a 0 old middle after (first old told) (λ now is. once.err now is));
+  err = λ old told. untaken-more request n a old middle after few (first old told) (λ now is. once.err now is);
 })
 
 pub asks-failed : (request : Request) (n a : ℕ) (before after : Option (List Step)) → n ≤ 3 → ((old : List Step) → before ≡ Some old → Spent request n a old after) → DeltaAsks request before after (Err LinkFault)
@@ -271,20 +296,40 @@ page-asked token old after page is_last h = record {
   such = such-append (IsAskedWith token) h.part (Ask Own (Delta token) true true ∷ []) (such-also (IsSpent (Delta token)) (IsAskedWith token) (asked-with token) h.part h.such) (refl, tt);
   sent = one-more is_own_delta h.part (Ask Own (Delta token) true true) 2 h.sent;
   answered = one-more is_answered_delta h.part (Ask Own (Delta token) true true) 0 (spent-unanswered (Delta token) h.part 0 h.such);
-  chained = let text = last-token page.link is_last in (Some text.0, chain-page token old h.part h.size page text.0 h.such h.page_is text.1);
+  chained = let text = last-token page.link is_last in
+      chained-all token (Some text.0) old (h.part ++ Ask Own (Delta token) true true ∷ []) (chain-page token old h.part h.size page text.0 h.such h.page_is text.1);
   grown = h.grown ∙ ap (λ log. Some log) (append_assoc old h.part (Ask Own (Delta token) true true ∷ []));
 }
 
-spent-asked : (token : Option (List ℕ)) (old : List Step) (after : Option (List Step)) → SpentThrice (Delta token) old after → AskedDelta token old after
-spent-asked token old after s = record {
-  part = s.part;
-  such = such-also (IsSpent (Delta token)) (IsAskedWith token) (asked-with token) s.part s.such;
-  sent = s.sent;
-  answered = spent-unanswered (Delta token) s.part 1 s.such;
-  chained = (token, chain-spent token old s.part s.such);
-  grown = s.grown;
+-- what was not taken was asked for too
+abbrev IsLost : Option (List ℕ) → List Step → Type 0
+IsLost token lost = (lost ≡ []) ⊎ (lost ≡ Ask Own (Delta token) true true ∷ [])
+
+lost-asked : (token : Option (List ℕ)) (lost : List Step) → IsLost token lost → OwnAre (IsAskedWith token) lost
+lost-asked token lost (inl is) = subst (OwnAre (IsAskedWith token)) (sym is) tt
+lost-asked token lost (inr is) = subst (OwnAre (IsAskedWith token)) (sym is) (refl, tt)
+
+lost-answered : (token : Option (List ℕ)) (lost : List Step) → IsLost token lost → count_by is_answered_delta lost ≤ 1
+lost-answered token lost (inl is) = subst (λ (steps : List Step). count_by is_answered_delta steps ≤ 1) (sym is) (omega arith)
+lost-answered token lost (inr is) =
+    subst (λ (steps : List Step). count_by is_answered_delta steps ≤ 1) (sym is) (one-more is_answered_delta [] (Ask Own (Delta token) true true) 0 (omega arith))
+
+lost-chained : (token : Option (List ℕ)) (drive spent lost : List Step) → OwnAre (IsSpent (Delta token)) spent → IsLost token lost → Chained token drive (spent ++ lost)
+lost-chained token drive spent lost such (inl is) =
+    subst (λ (steps : List Step). Chained token drive (spent ++ steps)) (sym is)
+    (subst (λ (steps : List Step). Chained token drive steps) (sym (append-nil spent)) (chained-all token token drive spent (chain-spent token drive spent such)))
+lost-chained token drive spent lost such (inr is) = subst (λ (steps : List Step). Chained token drive (spent ++ steps)) (sym is) (chain-lost token drive spent such)
+
+untaken-asked : (token : Option (List ℕ)) (old : List Step) (after : Option (List Step)) → Untaken (Delta token) 3 old after → AskedDelta token old after
+untaken-asked token old after u = record {
+  part = u.part ++ u.lost;
+  such = such-append (IsAskedWith token) u.part u.lost (such-also (IsSpent (Delta token)) (IsAskedWith token) (asked-with token) u.part u.such) (lost-asked token u.lost u.lost_is);
+  sent = u.sent;
+  answered = both-counted is_answered_delta u.part u.lost 0 1 (spent-unanswered (Delta token) u.part 0 u.such) (lost-answered token u.lost u.lost_is);
+  chained = lost-chained token old u.part u.lost u.such u.lost_is;
+  grown = u.grown;
 }
 
 pub delta-asks : (token : Option (List ℕ)) (result : Result Page DeltaFault) (before after : Option (List Step)) → DeltaAsks (Delta token) before after result → AsksDelta token before after
 delta-asks token (Ok page) before after asks = record { told = λ old told. page-asked token old after page asks.last_page (asks.ok old told) }
-delta-asks token (Err fault) before after asks = record { told = λ old told. spent-asked token old after (asks.err old told) }
+delta-asks token (Err fault) before after asks = record { told = λ old told. untaken-asked token old after (asks.err old told) }
