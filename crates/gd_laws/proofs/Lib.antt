@@ -1,11 +1,14 @@
 pub mod Allowed
-pub mod Bounds
 pub mod Counts
-pub mod FileSizes
 pub mod Files
+pub mod Found
 pub mod Living
 pub mod Logs
 pub mod Marks
+pub mod Orderly
+pub mod Paths
+pub mod Requests
 pub mod RisingNumbers
+pub mod Serving
 pub mod Since
 pub mod Sounds
