@@ -1,11 +1,16 @@
 pub mod Allowed
 pub mod Bounds
+pub mod Changes
 pub mod Counts
+pub mod Feeds
+pub mod Every
 pub mod FileSizes
 pub mod Files
 pub mod Living
 pub mod Logs
 pub mod Marks
+pub mod Members
+pub mod Removals
 pub mod RisingNumbers
 pub mod Since
 pub mod Sounds
