@@ -20,7 +20,7 @@ use Rattle.gd_item.specs.declared.step.Step.{Step}
 use Rattle.gd_item.proofs.LogsFeed.{rises-feed}
 use Rattle.gd_laws.specs.Changes.{IsRootEntry, IsLivingEntry, IsRemovedEntry, IsEntry}
 use Rattle.gd_laws.proofs.Changes.{AreApart, AllApart, all-apart}
-use Rattle.gd_laws.proofs.Logs.{sound-log}
+use Rattle.gd_laws.proofs.Every.{every-drive}
 use Rattle.gd_laws.proofs.Marks.{IsMarked, is-marked}
 use Rattle.gd_laws.proofs.Members.{SomeOf, Has, Paired, some-so, some-left, some-right, some-cases, each-has, any-from-some, some-from-any, contains-from-has, has-from-contains, paired, pairs-from}
 
@@ -259,7 +259,7 @@ module _ (held : Inventory) (sound : IsItemMap held) (marked : IsMarked held) (p
 
 -- ---- of every drive
 pub feed-log : (log : List Step) (position start : ℕ) (e : ℕ × Item) → Contains (feed (held_by log) position start) e ↔ IsEntry (held_by log) position start e
-feed-log log position start e = feed-entries (held_by log) (sound-log log) (is-marked (state_of log).effects) position start e
+feed-log log position start e = feed-entries (held_by log) (every-drive log).tree (is-marked (state_of log).effects) position start e
 
 pub once-log : (log : List Step) (position start : ℕ) → AllPairs (λ (x y : ℕ × Item). x.1.id ≢ y.1.id) (feed (held_by log) position start)
-once-log log position start = feed-once (held_by log) (sound-log log) (is-marked (state_of log).effects) position start
+once-log log position start = feed-once (held_by log) (every-drive log).tree (is-marked (state_of log).effects) position start

@@ -1,12 +1,17 @@
 pub mod Allowed
+pub mod Changes
 pub mod Counts
+pub mod Every
+pub mod Feeds
 pub mod Files
 pub mod Found
 pub mod Living
 pub mod Logs
 pub mod Marks
+pub mod Members
 pub mod Orderly
 pub mod Paths
+pub mod Removals
 pub mod Requests
 pub mod RisingNumbers
 pub mod Serving

@@ -5,6 +5,10 @@ use Rattle.std.proofs.lemmas.List.Elements.{All-from_recursion}
 use Rattle.std.proofs.lemmas.List.Kept.{AllPairs-cons}
 use Rattle.gd_names.proofs.Each.{AllPairs-nil, AllPairs-tail, each-later, each-append}
 
+later-case : (A B C : Type 0) → B ⊎ C → (A ⊎ B) ⊎ C
+later-case A B C (inl first) = inl (inr first)
+later-case A B C (inr second) = inr second
+
 module _ {X : Type 0} where
   abbrev pub SomeOf : (X → Type 0) → List X → Type 0
   SomeOf P [] = ⊥
@@ -27,10 +31,6 @@ module _ {X : Type 0} where
   pub some-right : (P : X → Type 0) (xs ys : List X) → SomeOf P ys → SomeOf P (xs ++ ys)
   some-right P [] ys some = some
   some-right P (x ∷ xs) ys some = inr (some-right P xs ys some)
-
-  later-case : (A B C : Type 0) → B ⊎ C → (A ⊎ B) ⊎ C
-  later-case A B C (inl first) = inl (inr first)
-  later-case A B C (inr second) = inr second
 
   pub some-cases : (P : X → Type 0) (xs ys : List X) → SomeOf P (xs ++ ys) → SomeOf P xs ⊎ SomeOf P ys
   some-cases P [] ys some = inr some
