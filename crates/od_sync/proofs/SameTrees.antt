@@ -7,7 +7,7 @@ use Rattle.gd_item.specs.Steps.{held_by, accepted_by}
 use Rattle.gd_item.specs.Trees.{tree_of}
 use Rattle.gd_item.specs.declared.item.Item.{Item}
 use Rattle.gd_item.specs.declared.step.Step.{Step}
-use Rattle.gd_store.proofs.Logs.{sound-log}
+use Rattle.gd_laws.proofs.Logs.{sound-log}
 use Rattle.gd_item.specs.Views.{uncounted}
 use Rattle.od_mirror.specs.Drive.{placed_items}
 use Rattle.od_mirror.specs.Pulled.{paths_of}
