@@ -11,6 +11,7 @@ use Rattle.gd_item.specs.declared.step.Who.TheVariants.{Own}
 use Rattle.od_transfer.specs.Asking.{Asks, HasAskCause, Heard, Never, Unheard}
 use Rattle.od_transfer.specs.declared.remote.AskFault.{AskFault}
 use Rattle.od_transfer.specs.declared.remote.AskFault.TheVariants.{Failed, Memory}
+use Rattle.od_cli.specs.GoingOn.{GoesOn}
 use Rattle.od_cli.specs.Worlds.{WorldValue, IsOwnReply, heard, unheard}
 
 -- a reply
@@ -72,3 +73,13 @@ cause-err before after fault failed faults answers = record {
   row_ended = tt;
   row_rose = λ is. ap (λ (w : WorldValue). w.in_row) (failed is);
 }
+
+-- how the world goes on
+pub goes-ok : (before after : WorldValue) (request : Request) → after ≡ heard before request → before.faults ≤ after.faults → before.answers ≤ after.answers → GoesOn before after
+goes-ok before after request is faults answers =
+    record { more = Ask Own request true true ∷ []; own = (refl, tt); grown = ap (λ (w : WorldValue). w.log) is; faults = faults; answers = answers }
+
+pub goes-err : (before after : WorldValue) (fault : AskFault) → (IsErrOf {T = Reply} (Err fault) Failed → after ≡ unheard before) → (IsErrOf {T = Reply} (Err fault) Memory → after ≡ before)
+    → before.faults ≤ after.faults → before.answers ≤ after.answers → GoesOn before after
+goes-err before after fault failed memory faults answers =
+    record { more = []; own = tt; grown = kept-log before after fault failed memory ∙ sym (append-nil before.log); faults = faults; answers = answers }
