@@ -3,10 +3,8 @@ pub mod PulledViews
 pub mod FirstPull
 pub mod Looks
 pub mod Compared
-pub mod Below
 pub mod Scanned
 pub mod Finding
-pub mod LeftAlone
 pub mod Undisturbing
 pub mod KeptPullMaps
 pub mod KeptPullTold
