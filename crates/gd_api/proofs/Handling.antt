@@ -109,8 +109,8 @@ step-handled old new log request size fault (Ok given) reply made stands same ca
       answered = inl (
         made ∙ answer.ok.1.0 ∙ sym (answer-whole state size request stands.plain none),
         λ who heard.
-        accepted-step new log who request true heard taken
-        (record { size = subst IsPageSize (sym same) stands.size; store = answer.ok.1.1; sessions = sessions ∙ stands.sessions; epoch = stands.epoch; floor = stands.floor; plain = stands.plain }),
+            accepted-step new log who request true heard taken
+            (record { size = subst IsPageSize (sym same) stands.size; store = answer.ok.1.1; sessions = sessions ∙ stands.sessions; epoch = stands.epoch; floor = stands.floor; plain = stands.plain }),
       );
     }
 step-handled old new log request size fault (Err why) reply made stands same cause sessions answer kept =

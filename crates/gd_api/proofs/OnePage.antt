@@ -1,9 +1,9 @@
 -- The feed in one page.
 use Rattle.std.proofs.Common.{◌≡◌, ℕ, ◌+◌, ◌-◌, ◌≤◌, Bool, true, false, cond, nat_lt, List, length, slice_index, Option, Some, None, refl, sym, ap, ◌∙◌, subst, arith}
-use Rattle.std.proofs.lemmas.Bool.Decides.{nat_tests}
 use Rattle.std.proofs.lemmas.List.{take_all}
 use Rattle.std.proofs.lemmas.Map.Entries.{length-values_of}
 use Rattle.std.specs.Map.{keys_of, values_of}
+use Rattle.gd_names.proofs.Small.{not-below, none-given}
 use Rattle.gd_item.specs.Inventory.{Effect, inventory}
 use Rattle.gd_item.specs.Records.{feed, first_of, last_of}
 use Rattle.gd_item.specs.Tokens.{token_text}
@@ -17,15 +17,8 @@ use Rattle.gd_item.proofs.Effects.{number-inventory}
 use Rattle.gd_api.specs.Replies.{is_foreign}
 use Rattle.gd_api.specs.WholePage.{whole_page, page_for_token, whole_delta}
 
-not-below : (a b : ℕ) → nat_lt a b ≡ false → b ≤ a
-not-below a b h = grind (arith, nat_tests)
-
-none-given : (b : Bool) (x : ℕ) → cond b (Some x) None ≡ None → b ≡ false
-none-given true x h = absurd cc
-none-given false x h = refl
-
 -- where no more follow all were given
-all-given : (most : ℕ) (changes : List (ℕ × Item)) → last_of most changes ≡ None → first_of most changes ≡ values_of changes
+pub all-given : (most : ℕ) (changes : List (ℕ × Item)) → last_of most changes ≡ None → first_of most changes ≡ values_of changes
 all-given most changes none =
     let few : length changes ≤ most = not-below most (length changes) (none-given (nat_lt most (length changes)) (slice_index (keys_of changes) (most - 1)) none) in
     let same : length (values_of changes) ≡ length changes = length-values_of changes in

@@ -18,12 +18,13 @@ use Rattle.gd_item.specs.declared.fault.StoreFault.{StoreFault}
 use Rattle.gd_item.specs.declared.live.LiveItem.{LiveItem}
 use Rattle.gd_item.specs.declared.fault.StoreFault.TheVariants.{NotFound, NotFolder, NotFile, Root, BadName, Modified, IntoItself, NameTaken, PathTooLong, Quota}
 use Rattle.gd_names.proofs.Settled.{settled-free, over-sibling}
+use Rattle.gd_names.proofs.Small.{clear, un-not}
 use Rattle.gd_item.proofs.Effects.{next-inventory, number-positive}
 use Rattle.gd_item.proofs.Moving.{sound-moved}
 use Rattle.gd_item.proofs.Removing.{sound-removed-all}
 use Rattle.gd_item.proofs.Soundness.{sound-folder, sound-file, sound-over}
 use Rattle.gd_store.specs.Stands.{Stands}
-use Rattle.gd_store.proofs.Allowed.{MayMake, may-make, MayPut, may-put, clear, un-not, HasRoom, has-room, next-number}
+use Rattle.gd_store.proofs.Allowed.{MayMake, may-make, MayPut, may-put, HasRoom, has-room, next-number}
 use Rattle.gd_store.proofs.Counts.{siblings-few}
 use Rattle.gd_store.proofs.Files.{file-at}
 use Rattle.gd_store.proofs.Steps.{IsSound}

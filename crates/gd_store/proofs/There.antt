@@ -6,8 +6,9 @@ use Rattle.gd_names.specs.Caseless.{equal_caseless}
 use Rattle.gd_names.specs.declared.conflict.Conflict.{Conflict}
 use Rattle.gd_names.specs.declared.conflict.Settle.TheVariants.{Over}
 use Rattle.gd_names.specs.declared.conflict.Sibling.{Sibling}
-use Rattle.gd_conflict.proofs.Free.{over-sibling}
-use Rattle.gd_item.specs.Inventory.{Inventory, Moved, after, changed, live_at, with_place}
+use Rattle.gd_names.proofs.Settled.{over-sibling}
+use Rattle.gd_names.proofs.Small.{clear, un-not}
+use Rattle.gd_item.specs.Inventory.{Inventory, Moved, after, changed, live_at, with_bytes, with_place}
 use Rattle.gd_item.specs.Moves.{patch_refusal, patch_effect, new_parent, new_name}
 use Rattle.gd_item.specs.Nodes.{live_node}
 use Rattle.gd_item.specs.Records.{root_record, record_with, record_at}
@@ -16,8 +17,6 @@ use Rattle.gd_item.specs.Trees.{nodes_of}
 use Rattle.gd_item.specs.declared.condition.Condition.{Condition}
 use Rattle.gd_item.specs.declared.item.Item.{Item}
 use Rattle.gd_item.specs.declared.live.LiveItem.{LiveItem}
-use Rattle.gd_store.specs.Changed.{with_item}
-use Rattle.gd_store.proofs.Allowed.{clear, un-not}
 use Rattle.gd_store.proofs.Climbs.{node_at-live}
 
 mapped-some : {X Y : Type 0} (f : X → Y) (found : Option X) → is_some (option_map f found) ≡ is_some found
@@ -50,10 +49,12 @@ or-true : (a b : Bool) → b ≡ true → (a || b) ≡ true
 or-true true b is = refl
 or-true false b is = is
 
-pub added-recorded : (held : Inventory) (item : LiveItem) (with_path : Bool) → None ≡ record_at item.number with_path (with_item held item) → ⊥
-added-recorded held item with_path none =
-    recorded (with_item held item) item.number with_path
-    (there-is item.number (held.items ++ item ∷ []) ∙ or-true (nat_eq item.number 1) (is_some (live_at item.number (held.items ++ item ∷ []))) (live-added held.items item)) none
+pub added-recorded : (old new : Inventory) (item : LiveItem) (with_path : Bool) → new.items ≡ old.items ++ item ∷ [] → None ≡ record_at item.number with_path new → ⊥
+added-recorded old new item with_path is none =
+    let IsThere : List LiveItem → Type 0 = λ items. is_there item.number (map live_node items) ≡ true in
+    let there : IsThere (old.items ++ item ∷ []) =
+    there-is item.number (old.items ++ item ∷ []) ∙ or-true (nat_eq item.number 1) (is_some (live_at item.number (old.items ++ item ∷ []))) (live-added old.items item) in
+    recorded new item.number with_path (subst IsThere (sym is) there) none
 
 -- a change of an item that keeps its number
 either-some : {X : Type 0} (b : Bool) (x y : X) (rest : Option X) → is_some (cond b (Some x) rest) ≡ is_some (cond b (Some y) rest)
@@ -68,7 +69,7 @@ live-changed number other f same (item ∷ items) =
           ap (λ n. is_some (cond (nat_eq n number) (Some (f item)) (live_at number items))) (same item)
           ∙ either-some (nat_eq item.number number) (f item) item (live_at number items)
       | false ↦ elim (nat_eq item.number number) as (λ b. is_some (cond b (Some item) (live_at number (changed other f items))) ≡ is_some (cond b (Some item) (live_at number items)))
-      [ true ↦ refl | false ↦ live-changed number other f same items ]
+          [ true ↦ refl | false ↦ live-changed number other f same items ]
     ]
 
 pub there-changed : (number other : ℕ) (f : LiveItem → LiveItem) (items : List LiveItem) → ((item : LiveItem) → (f item).number ≡ item.number) → is_there number (map live_node items) ≡ true → is_there number (map live_node (changed other f items)) ≡ true
@@ -84,6 +85,15 @@ moved-recorded old new number name parent condition with_path allowed is none =
     let stays : is_there number (nodes_of moved) ≡ true =
     there-changed number number (with_place (old.number + 1) (new_parent old number parent) (new_name old number name)) old.items (λ item. refl) there in
     recorded moved number with_path stays (none ∙ ap (record_at number with_path) is)
+
+-- a file that just got new bytes
+pub written-recorded : (old new : Inventory) (number change : ℕ) (bytes : List ℕ) (with_path : Bool) (before written : List LiveItem) → is_there number (nodes_of old) ≡ true → before ≡ old.items
+    → written ≡ changed number (with_bytes change bytes) before → new.items ≡ written → None ≡ record_at number with_path new → ⊥
+written-recorded old new number change bytes with_path before written there stood is has none =
+    let IsThere : List LiveItem → Type 0 = λ items. is_there number (map live_node items) ≡ true in
+    let stays : IsThere (changed number (with_bytes change bytes) before) =
+    there-changed number number (with_bytes change bytes) before (λ item. refl) (subst IsThere (sym stood) there) in
+    recorded new number with_path (subst IsThere (sym (has ∙ is)) stays) none
 
 -- a file that may be put over another is there, and so is the one over which a name is settled
 pub over-there : (held : Inventory) (number : ℕ) (bytes : List ℕ) (condition : Condition) (others : ℕ) → put_over_refusal held number bytes condition others ≡ None → is_there number (nodes_of held) ≡ true

@@ -204,10 +204,7 @@ fn reads_are_answered(rt: HostRuntime) -> Result<(), Fail> {
     let alloc = rt.alloc();
     let mut drive = small(alloc)?;
     assert_eq!(rt; get(alloc, &mut drive, "/d/f")?.as_str(), "3 e3 f");
-    assert_eq!(rt;
-        list(alloc, &mut drive, "/d", "")?.as_str(),
-        "3 e3 f, end"
-    );
+    assert_eq!(rt; list(alloc, &mut drive, "/d", "")?.as_str(), "3 e3 f, end");
     assert_eq!(rt; content(alloc, &mut drive, "/d/f")?.as_str(), "3 of 3");
     assert_eq!(rt; download(alloc, &mut drive, 3, 3)?.as_str(), "2 bytes");
     assert_eq!(rt; drive.store().number(), 3);

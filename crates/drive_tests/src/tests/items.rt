@@ -1,4 +1,7 @@
-use gd_item::{Address, Condition, Digest, ItemId, Request, RequestKind, StoreFault, ctag_of, digest_of, etag_of, matches};
+use gd_item::{
+    Address, Condition, Digest, ItemId, Request, RequestKind, StoreFault, ctag_of, digest_of,
+    etag_of, matches,
+};
 use gd_names::{Conflict, Path, Text};
 use std::test::Fail;
 

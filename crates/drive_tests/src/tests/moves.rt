@@ -45,9 +45,11 @@ fn fault_of(
     } else {
         Some(&new_name)
     };
-    Ok(store
-        .patch(ItemId(id), new_name, folder(parent), &condition)
-        .err())
+    Ok(
+        store
+            .patch(ItemId(id), new_name, folder(parent), &condition)
+            .err(),
+    )
 }
 
 #[test]

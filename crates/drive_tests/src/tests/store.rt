@@ -43,9 +43,13 @@ fn told(alloc: Global, item: &Item) -> Result<String, Fail> {
         None => "",
         Some(path) => path.as_str(),
     };
-    Ok(
-        format!(in alloc; "{} {} {} {path}/{}", item.id.0, item.etag.0.as_str(), item.size, item.name.as_str())?,
-    )
+    Ok(format!(in alloc;
+        "{} {} {} {path}/{}",
+        item.id.0,
+        item.etag.0.as_str(),
+        item.size,
+        item.name.as_str()
+    )?)
 }
 
 /// The same of items in a row.
@@ -153,10 +157,7 @@ fn steps_give_records(rt: HostRuntime) -> Result<(), Fail> {
     let made = store.make_folder_and_get(ItemId(2), &name, Conflict::Fail)?;
     assert_eq!(rt; told(alloc, &made)?.as_str(), "4 e5 0 /drive/root:/d/e");
     let moved = store.patch_and_get(ItemId(3), Some(&name), Some(ItemId(4)), &free)?;
-    assert_eq!(rt;
-        told(alloc, &moved)?.as_str(),
-        "3 e6 5 /drive/root:/d/e/e"
-    );
+    assert_eq!(rt; told(alloc, &moved)?.as_str(), "3 e6 5 /drive/root:/d/e/e");
     Ok(())
 }
 
@@ -170,8 +171,13 @@ fn puts_give_records(rt: HostRuntime) -> Result<(), Fail> {
     ];
     for (name, record, is_new) in rows {
         let place = Place::Under(ItemId(2), text(alloc, name)?);
-        let (item, made) =
-            store.put_and_get(&place, b"by", Conflict::Replace, &Condition::Free, 0)?;
+        let (item, made) = store.put_and_get(
+            &place,
+            b"by",
+            Conflict::Replace,
+            &Condition::Free,
+            0,
+        )?;
         assert_eq!(rt; told(alloc, &item)?.as_str(), record);
         assert_eq!(rt; made, is_new);
     }
@@ -327,15 +333,9 @@ fn kept_bytes_have_a_limit(rt: HostRuntime) -> Result<(), Fail> {
     }
     assert_eq!(rt; store.kept_bytes(), MOST_BYTES);
     assert_eq!(rt; fault_of(alloc, &mut store, b"")?, None);
-    assert_eq!(rt;
-        fault_of(alloc, &mut store, b"1")?,
-        Some(StoreFault::Quota)
-    );
+    assert_eq!(rt; fault_of(alloc, &mut store, b"1")?, Some(StoreFault::Quota));
     store.remove(ItemId(2), &Condition::Free)?;
-    assert_eq!(rt;
-        fault_of(alloc, &mut store, b"1")?,
-        Some(StoreFault::Quota)
-    );
+    assert_eq!(rt; fault_of(alloc, &mut store, b"1")?, Some(StoreFault::Quota));
     Ok(())
 }
 
