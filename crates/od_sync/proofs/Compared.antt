@@ -1,7 +1,7 @@
 -- Entries that compare as the same with a drive's tree are those of a scan of it. Trees that compare as the same are the same,
 -- where no two unlike contents have one digest, and trees that are the same compare as the same.
 use Rattle.std.proofs.Common.{◌≡◌, ℕ, Bool, true, false, ◌&&◌, List, [], ◌∷◌, map, nat_eq, Option, Some, None, refl, ap, sym, ◌∙◌}
-use Rattle.std.proofs.lemmas.Bool.{eq-eqb, and_parts, and_from}
+use Rattle.std.proofs.lemmas.Bool.{and_parts, and_from}
 use Rattle.std.specs.Cmp.Lexicographic.{pointwise, same_text}
 use Rattle.std.specs.List.{AllByRecursion, Contains}
 use Rattle.sha2.specs.Sha256.{sha256}
@@ -9,28 +9,10 @@ use Rattle.gd_item.specs.Records.{digest_record, kind_at, record_of}
 use Rattle.gd_item.specs.declared.digest.Digest.{Digest}
 use Rattle.gd_item.specs.declared.item.Item.{Item}
 use Rattle.gd_item.specs.declared.live.LiveItem.{LiveItem}
+use Rattle.od_tree.proofs.Paths.{path-self, same-path, text-self}
 use Rattle.od_sync.specs.Comparing.{is_same, is_same_entry, is_same_node, node_of, scanned}
 use Rattle.od_sync.specs.declared.scanning.Node.{Node}
 use Rattle.od_sync.specs.declared.scanning.Node.TheVariants.{Folder, File}
-
-nat-self : (n : ℕ) → nat_eq n n ≡ true
-nat-self n = eq-eqb n n refl
-
-pub text-self : (xs : List ℕ) → pointwise nat_eq xs xs ≡ true
-text-self [] = refl
-text-self (x ∷ xs) = rw (nat-self x) (text-self xs)
-
-path-self : (path : List (List ℕ)) → pointwise (pointwise nat_eq) path path ≡ true
-path-self [] = refl
-path-self (name ∷ path) = rw (text-self name) (path-self path)
-
-pub same-path : (a b : List (List ℕ)) → pointwise (pointwise nat_eq) a b ≡ true → a ≡ b
-same-path [] [] is = refl
-same-path [] (y ∷ b) is = absurd (cc is)
-same-path (x ∷ a) [] is = absurd (cc is)
-same-path (x ∷ a) (y ∷ b) is =
-    let parts = and_parts (pointwise nat_eq x y) (pointwise (pointwise nat_eq) a b) is in
-    ap (λ first. first ∷ a) (same_text x y (sym parts.0)) ∙ ap (λ rest. y ∷ rest) (same-path a b parts.1)
 
 -- the bytes, if there are any, are among these
 abbrev pub IsAmong : List (List ℕ) → Option (List ℕ) → Type 0

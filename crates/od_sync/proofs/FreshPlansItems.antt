@@ -17,7 +17,7 @@ use Rattle.od_tree.specs.Local.{is_from}
 use Rattle.od_sync.specs.Doing.{IsFileOf}
 use Rattle.od_sync.specs.Planning.{fetches_of, file_in, folder_in, folders_of, is_new, is_wanted, planned_fetches, planned_folders}
 use Rattle.od_sync.specs.declared.planning.Fetching.{Fetching}
-use Rattle.od_sync.proofs.Below.{from-self}
+use Rattle.od_tree.proofs.Below.{from-self}
 use Rattle.od_sync.proofs.FreshPlansHeld.{IsAt, item_bytes}
 use Rattle.od_sync.proofs.FreshPlansTrees.{file_of, files, folder_of, folders}
 use Rattle.od_sync.proofs.Uncounted.{paths-uncounted}

@@ -29,7 +29,8 @@ use Rattle.od_sync.specs.declared.planning.Fetching.{Fetching}
 use Rattle.od_sync.specs.declared.scanning.Node.{Node}
 use Rattle.od_sync.specs.declared.scanning.Node.TheVariants.{Folder, File}
 use Rattle.gd_names.proofs.Each.{each-so}
-use Rattle.od_sync.proofs.Compared.{same-file, same-path}
+use Rattle.od_tree.proofs.Paths.{same-path}
+use Rattle.od_sync.proofs.Compared.{same-file}
 use Rattle.od_sync.proofs.SameTrees.{drive-as-found}
 use Rattle.std.proofs.lemmas.Bool.{and_parts}
 

@@ -21,8 +21,8 @@ use Rattle.od_sync.specs.Findings.{found_file, found_folder, listing_at}
 use Rattle.od_sync.specs.Visits.{Turn, Visits, pushed, pushed_if}
 use Rattle.od_sync.specs.declared.scanning.Node.{Node}
 use Rattle.od_sync.specs.declared.scanning.Node.TheVariants.{Folder, File}
-use Rattle.od_sync.proofs.Compared.{same-path}
-use Rattle.od_sync.proofs.Below.{is_below, from, below, spread, Under, step_to, step-right, step-from, right-parts, right-name, right-then-below, spread-all, here-and-below, in-kept-under, kept-twice}
+use Rattle.od_tree.proofs.Paths.{same-path}
+use Rattle.od_tree.proofs.Below.{is_below, from, below, spread, Under, step_to, step-right, step-from, right-parts, right-name, right-then-below, spread-all, here-and-below, in-kept-under, kept-twice}
 
 -- the entries beside their paths, in order
 abbrev beside : List Spot → List (Path × Spot)
