@@ -25,7 +25,6 @@ pub mod LastImages
 pub mod Batched
 pub mod Done
 pub mod SyncAlone
-pub mod CountsRose
 pub mod Growth
 pub mod ReceivedImages
 pub mod Going
