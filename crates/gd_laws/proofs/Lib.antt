@@ -1,5 +1,6 @@
 pub mod Allowed
 pub mod Counts
+pub mod Every
 pub mod Files
 pub mod Found
 pub mod Living
