@@ -6,6 +6,8 @@ mod mirror;
 mod replay;
 mod script;
 mod sync;
+mod transfer;
+mod tree;
 
 use gd_names::{List, NoMemory, Path, Text};
 use std::alloc::Global;

@@ -1,19 +1,19 @@
 -- What holds of the sessions of a drive where one is opened, gets more bytes or ends.
-use Rattle.std.proofs.Common.{◌≡◌, ℕ, ◌+◌, ◌^◌, ◌<◌, ◌≤◌, Bool, true, false, not, cond, nat_eq, List, [], ◌∷◌, ◌++◌, length, map, filter, sum_by, count_by, Option, Some, None, refl, sym, ap, ◌∙◌, subst, arith}
+use Rattle.std.proofs.Common.{◌≡◌, ℕ, ◌+◌, ◌^◌, ◌<◌, ◌≤◌, Bool, true, false, not, cond, nat_eq, List, [], ◌∷◌, ◌++◌, length, map, Some, None, refl, sym, ap, ◌∙◌, subst, arith}
 use Rattle.std.specs.List.{All, AllPairs}
 use Rattle.std.proofs.lemmas.Bool.{eqb-true, ne_eqb}
 use Rattle.std.proofs.lemmas.List.{length-append, length-map, length_push}
 use Rattle.std.proofs.lemmas.List.Elements.{All-nil, All-cons, All-head, All-tail, All-push, All-filter, All-weaker}
 use Rattle.std.proofs.lemmas.List.Kept.{AllPairs-filter}
 use Rattle.std.proofs.lemmas.List.Quantifiers.{all_pairs_push}
-use Rattle.std.proofs.lemmas.List.Sums.{length-filter, count_by-le-length, sum_by-append}
+use Rattle.std.proofs.lemmas.List.Sums.{length-filter, count_by-le-length, sum_by-append, sum_by-cons}
 use Rattle.gd_names.specs.declared.conflict.Conflict.{Conflict}
 use Rattle.gd_names.proofs.Each.{AllPairs-nil, AllPairs-head, AllPairs-tail}
 use Rattle.gd_item.specs.Sessions.{Session, held_bytes, session_at, without_session, with_fragment}
 use Rattle.gd_item.specs.declared.condition.Condition.{Condition}
 use Rattle.gd_item.specs.declared.live.Place.{Place}
 use Rattle.gd_item.proofs.Pairs.{AllPairs-same_map}
-use Rattle.gd_laws.specs.EveryDrive.{IsFilledTo, IsOpen}
+use Rattle.gd_laws.specs.EveryDrive.{IsOpen}
 
 pub record IsServing (openers : ℕ) (sessions : List Session) : Type 0 where
   pub each : All (IsOpen openers) sessions
@@ -50,13 +50,17 @@ serving-without openers number sessions serving =
       fits = serving.fits;
     }
 
+-- the bytes of one session and of the others
+bytes-first : (session : Session) (sessions : List Session) → held_bytes (session ∷ sessions) ≡ length session.filled + held_bytes sessions
+bytes-first session sessions = sum_by-cons (λ (s : Session). length s.filled) session sessions
+
 pub bytes-without : (number : ℕ) (sessions : List Session) → held_bytes (without_session number sessions) ≤ held_bytes sessions
 bytes-without number [] = omega arith
 bytes-without number (session ∷ sessions) =
-    let rest : held_bytes (without_session number sessions) ≤ held_bytes sessions = bytes-without number sessions in
-    elim (nat_eq session.number number) as (λ b. held_bytes (cond (not b) (session ∷ without_session number sessions) (without_session number sessions)) ≤ held_bytes (session ∷ sessions)) [
-      | true ↦ (let low : held_bytes (without_session number sessions) ≤ length session.filled + held_bytes sessions = omega (arith, rest) in low)
-      | false ↦ (let low : length session.filled + held_bytes (without_session number sessions) ≤ length session.filled + held_bytes sessions = omega (arith, rest) in low)
+    let left : List Session = without_session number sessions in
+    elim (nat_eq session.number number) as (λ b. held_bytes (cond (not b) (session ∷ left) left) ≤ held_bytes (session ∷ sessions)) [
+      | true ↦ omega (arith, bytes-without number sessions, bytes-first session sessions)
+      | false ↦ omega (arith, bytes-without number sessions, bytes-first session sessions, bytes-first session left)
     ]
 
 -- its bytes count no more
@@ -68,12 +72,8 @@ bytes-less number (first ∷ sessions) session found =
       | true ↦ λ is.
           let same : first ≡ session = cc in
           let long : length first.filled ≡ length session.filled = ap (λ (s : Session). length s.filled) same in
-          let low : held_bytes left + length session.filled ≤ length first.filled + held_bytes sessions = omega (arith, long, bytes-without number sessions) in
-          low
-      | false ↦ λ is.
-          let rest : held_bytes left + length session.filled ≤ held_bytes sessions = bytes-less number sessions session is in
-          let low : length first.filled + held_bytes left + length session.filled ≤ length first.filled + held_bytes sessions = omega (arith, rest) in
-          low
+          omega (arith, long, bytes-without number sessions, bytes-first first sessions)
+      | false ↦ λ is. omega (arith, bytes-less number sessions session is, bytes-first first sessions, bytes-first first left)
     ] found
 
 -- ---- a session that gets more bytes
@@ -112,17 +112,14 @@ written openers number total bytes (first ∷ sessions) session rising all found
           let above : All (λ (s : Session). number < s.number) sessions =
           subst (λ n. All (λ (s : Session). n < s.number) sessions) (eqb-true first.number number at) (AllPairs-head R first sessions rising) in
           let left : rest ≡ sessions = untouched number total bytes sessions above in
-          let long : length (first.filled ++ bytes) + held_bytes rest ≡ length first.filled + held_bytes sessions + length bytes =
-          omega (arith, length-append first.filled bytes, ap held_bytes left) in
           record {
             each = All-cons (IsOpen openers) (written_to total bytes first) rest (subst (λ (s : Session). IsOpen openers (written_to total bytes s)) (sym same) now)
                 (subst (All (IsOpen openers)) (sym left) (All-tail (IsOpen openers) first sessions all));
-            bytes = long;
+            bytes = omega (arith, length-append first.filled bytes, ap held_bytes left, bytes-first first sessions, bytes-first (written_to total bytes first) rest);
           }
       | false ↦ λ off is.
           let later : IsWritten openers (length bytes) sessions rest = written openers number total bytes sessions session (AllPairs-tail R first sessions rising) (All-tail (IsOpen openers) first sessions all) is now in
-          let long : length first.filled + held_bytes rest ≡ length first.filled + held_bytes sessions + length bytes = omega (arith, later.bytes) in
-          record { each = All-cons (IsOpen openers) first rest (All-head (IsOpen openers) first sessions all) later.each; bytes = long }
+          record { each = All-cons (IsOpen openers) first rest (All-head (IsOpen openers) first sessions all) later.each; bytes = omega (arith, later.bytes, bytes-first first sessions, bytes-first first rest) }
     ]) refl found
 
 pub serving-written : (openers number total : ℕ) (bytes : List ℕ) (sessions : List Session) (session : Session) → IsServing openers sessions → session_at number sessions ≡ Some session

@@ -20,7 +20,6 @@ pub mod ImagesAfter
 pub mod Batched
 pub mod Done
 pub mod SyncAlone
-pub mod CountsRose
 pub mod Growth
 pub mod ReceivedImages
 pub mod Going

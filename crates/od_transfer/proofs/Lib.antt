@@ -1,5 +1,6 @@
 pub mod Alone
 pub mod Bounds
+pub mod CountsRose
 pub mod Explaining
 pub mod Fetches
 pub mod Logs
