@@ -1,5 +1,5 @@
 -- Batch after batch of fetches: what one does to the logs and to the images, and what all of them do.
-use Rattle.std.proofs.Common.{◌≡◌, inl, inr, ℕ, ◌≤◌, Bool, true, false, ◌||◌, List, [], ◌∷◌, ◌++◌, map, Option, Some, None, Ok, Err, refl, ap, sym, subst, ◌∙◌, append_assoc, arith}
+use Rattle.std.proofs.Common.{◌≡◌, inl, inr, ℕ, ◌<◌, ◌≤◌, Bool, true, false, ◌||◌, List, [], ◌∷◌, ◌++◌, map, Option, Some, None, Ok, Err, refl, ap, sym, subst, ◌∙◌, append_assoc, arith}
 use Rattle.std.proofs.lemmas.List.{append-nil, map-append}
 use Rattle.std.proofs.lemmas.List.Elements.{All-nil, All-cons, All-head, All-tail, All-append, All-map, All-weaker, Contains-append_left, Contains-append_right}
 use Rattle.std.specs.List.{All, AllZip, Contains, list_any}
@@ -21,8 +21,8 @@ use Rattle.gd_names.proofs.Each.{each-append, each-first, each-second}
 use Rattle.od_keeper.proofs.Growing.{sound-stays}
 use Rattle.od_transfer.specs.Alone.{AreOwnServed, is_own_served}
 use Rattle.od_transfer.specs.Asking.{Grows, IsSuch, OwnAre}
-use Rattle.od_transfer.specs.Explained.{Carries, IsExplained, IsFetchExplained}
-use Rattle.od_transfer.specs.Fits.{Fits, HasDigest, IsTransfer, is_lost}
+use Rattle.od_transfer.specs.Explained.{GrowsSo, IsExplained, IsFetchExplained, IsOfJobs}
+use Rattle.od_transfer.specs.Fits.{Fits, HasDigest, IsTransfer, IsWrittenJob, is_lost}
 use Rattle.od_transfer.specs.declared.job.Job.{Job}
 use Rattle.od_transfer.specs.declared.job.Outcome.{Outcome}
 use Rattle.od_tree.specs.Local.{local_of}
@@ -37,6 +37,7 @@ use Rattle.od_keeper.proofs.LastImages.{last_added}
 use Rattle.od_sync.proofs.Made.{makes-so, makes-steps, makes-then}
 use Rattle.od_sync.proofs.Placed.{all-back, all-front}
 use Rattle.od_transfer.proofs.Alone.{fetched_there, transfers_keep}
+use Rattle.od_transfer.proofs.Jobs.{jobs_transfers}
 use Rattle.gd_names.proofs.Small.{neither}
 use Rattle.gd_names.proofs.Streams.{rose-later, rose-on}
 
@@ -95,17 +96,31 @@ not-so : (b : Bool) (P : Type 0) → (b ≡ true → P) → (P → ⊥) → b �
 not-so true P gives none = absurd (none (gives refl))
 not-so false P gives none = refl
 
-pub brings : (batch : List Fetching) (jobs : List Job) (outcomes : List Outcome) (faults_before faults_now : ℕ) (before after : Option (List Step)) → jobs ≡ map job_of batch → Carries jobs before after outcomes
-    → (list_any is_lost outcomes ≡ true → Rose faults_before faults_now) → BringsFiles batch outcomes faults_before faults_now before after
-brings batch jobs outcomes faults_before faults_now before after are carries cause = record {
+-- the requests of a batch are those of fetches
+jobs-written : (batch : List Fetching) (jobs : List Job) → jobs ≡ map job_of batch → All (λ (fetch : Fetching). 0 < fetch.id.0) batch → All IsWrittenJob jobs
+jobs-written batch jobs are written = subst (λ (js : List Job). All IsWrittenJob js) (sym are) (All-map IsWrittenJob job_of batch written)
+
+pub carries-transfers : {Holds : List Step → List Step → Type 0} (batch : List Fetching) (jobs : List Job) (before after : Option (List Step)) → jobs ≡ map job_of batch
+    → All (λ (fetch : Fetching). 0 < fetch.id.0) batch → GrowsSo (IsOfJobs jobs) Holds before after → Grows IsTransfer before after
+carries-transfers batch jobs before after are written carries = record {
   told = λ drive told.
       let carried = carries.told drive told in
+      record { part = carried.part; such = jobs_transfers jobs drive carried.part (jobs-written batch jobs are written) carried.such; grown = carried.grown };
+}
+
+pub brings : (batch : List Fetching) (jobs : List Job) (outcomes : List Outcome) (faults_before faults_now : ℕ) (before after : Option (List Step)) → jobs ≡ map job_of batch
+    → All (λ (fetch : Fetching). 0 < fetch.id.0) batch → GrowsSo (IsOfJobs jobs) (λ old part. AllZip (IsExplained old part) jobs outcomes) before after
+    → (list_any is_lost outcomes ≡ true → Rose faults_before faults_now) → BringsFiles batch outcomes faults_before faults_now before after
+brings batch jobs outcomes faults_before faults_now before after are written carries cause = record {
+  told = λ drive told.
+      let carried = carries.told drive told in
+      let transfers = jobs_transfers jobs drive carried.part (jobs-written batch jobs are written) carried.such in
       record {
         more = carried.part;
-        transfers = carried.such;
+        transfers = transfers;
         grown = carried.grown;
         all = λ no_fault own files zip.
-            bytes-come drive carried.part batch outcomes files own carried.such (subst (λ (js : List Job). AllZip (IsExplained drive carried.part) js outcomes) are carried.explained)
+            bytes-come drive carried.part batch outcomes files own transfers (subst (λ (js : List Job). AllZip (IsExplained drive carried.part) js outcomes) are carried.holds)
             (not-so (list_any is_lost outcomes) (Rose faults_before faults_now) cause no_fault) zip;
       };
 }

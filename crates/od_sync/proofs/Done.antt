@@ -1,20 +1,17 @@
 -- A plan that is done: the folders, and then the files that are tried.
-use Rattle.std.proofs.Common.{◌≡◌, ℕ, ◌<◌, ◌≤◌, Bool, true, false, not, ◌&&◌, cond, nat_eq, nat_lt, List, [], ◌∷◌, ◌++◌, map, filter, nat_le, Option, Some, refl, ap, sym, subst, ◌∙◌, append_assoc, arith}
-use Rattle.std.proofs.lemmas.Bool.{le-leb, leb-true, lt-ltb, ltb-true, eqb-true, and_parts, and_from, or_right}
+use Rattle.std.proofs.Common.{◌≡◌, ℕ, ◌<◌, ◌≤◌, Bool, true, not, ◌&&◌, cond, nat_lt, List, [], ◌∷◌, ◌++◌, map, filter, nat_le, Option, Some, refl, ap, sym, subst, ◌∙◌, append_assoc, arith}
+use Rattle.std.proofs.lemmas.Bool.{le-leb, leb-true, lt-ltb, ltb-true, and_parts, and_from, or_right}
 use Rattle.std.proofs.lemmas.List.Elements.{All-contains, All-contains_itself, All-filter, All-weaker, filter_passes}
 use Rattle.std.specs.List.{All, AllByRecursion, AllZip, Contains}
-use Rattle.gd_item.specs.Inventory.{Inventory, live_at}
-use Rattle.gd_item.specs.Sound.{IsWithin}
 use Rattle.gd_item.specs.Steps.{held_by, accepted_by}
-use Rattle.gd_item.specs.declared.live.LiveItem.{LiveItem}
 use Rattle.gd_item.specs.declared.request.Request.{Request}
 use Rattle.gd_item.specs.declared.step.Step.{Step}
 use Rattle.od_keeper.specs.Sound.{IsAccepted, IsSound}
 use Rattle.od_keeper.specs.declared.image.Agreed.TheVariants as agreed
 use Rattle.od_keeper.specs.declared.image.Image.{Image}
 use Rattle.od_transfer.specs.Fits.{IsTransfer, is_transfer}
-use Rattle.gd_laws.proofs.Logs.{sound-log}
-use Rattle.gd_names.proofs.Each.{each, each-so, each-append, each-first, each-second}
+use Rattle.gd_names.proofs.Each.{each-so, each-append, each-first, each-second}
+use Rattle.od_transfer.proofs.Alone.{found-item}
 use Rattle.od_transfer.proofs.Logs.{such-also}
 use Rattle.od_tree.specs.Local.{local_of}
 use Rattle.od_tree.specs.Undisturbed.{IsOp}
@@ -70,31 +67,14 @@ pub tried-written : (barred : List (List (List ℕ))) (fetches : List Fetching) 
 tried-written barred fetches =
     All-weaker (λ (fetch : Fetching). is_tried barred fetch ≡ true) (λ (fetch : Fetching). 0 < fetch.id.0) (written barred) (filter (is_tried barred) fetches) (filter_passes (is_tried barred) fetches)
 
--- the number of an item of a drive is above 0
-above-if : (b : Bool) (number : ℕ) (first : LiveItem) (rest : Option LiveItem) (item : LiveItem) → nat_eq first.number number ≡ b → 1 < first.number → (rest ≡ Some item → 0 < number)
-    → cond b (Some first) rest ≡ Some item → 0 < number
-above-if true number first rest item is above later found = let same : first.number ≡ number = eqb-true first.number number is in omega (arith, above, same)
-above-if false number first rest item is above later found = later found
-
-above-zero : (number : ℕ) (items : List LiveItem) (item : LiveItem) → AllByRecursion (λ (i : LiveItem). 1 < i.number) items → live_at number items ≡ Some item → 0 < number
-above-zero number [] item all found = absurd (cc found)
-above-zero number (first ∷ items) item all found =
-    above-if (nat_eq first.number number) number first (live_at number items) item refl all.0 (above-zero number items item all.1) found
-
-numbers-above : (drive : List Step) → AllByRecursion (λ (item : LiveItem). 1 < item.number) (held_by drive).items
-numbers-above drive =
-    let held : Inventory = held_by drive in
-    each-so (IsWithin held) (λ (item : LiveItem). 1 < item.number) (λ item within. within.above) held.items (each (IsWithin held) held.items (sound-log drive).within)
-
-all-tried : (inventory : Inventory) (fetches : List Fetching) (files : List (List (List ℕ) × List ℕ)) → AllByRecursion (λ (item : LiveItem). 1 < item.number) inventory.items
-    → AllZip (IsFileOf inventory) fetches files → filter (is_tried []) fetches ≡ fetches
-all-tried inventory [] files above zip = refl
-all-tried inventory (fetch ∷ fetches) [] above zip = absurd zip
-all-tried inventory (fetch ∷ fetches) (file ∷ files) above zip =
+all-tried : (drive : List Step) (fetches : List Fetching) (files : List (List (List ℕ) × List ℕ)) → AllZip (IsFileOf (held_by drive)) fetches files → filter (is_tried []) fetches ≡ fetches
+all-tried drive [] files zip = refl
+all-tried drive (fetch ∷ fetches) [] zip = absurd zip
+all-tried drive (fetch ∷ fetches) (file ∷ files) zip =
+    let found = found-item drive fetch.id.0 zip.0.there.item zip.0.there.there in
     ap (λ b. cond b (fetch ∷ filter (is_tried []) fetches) (filter (is_tried []) fetches))
-    (and_from (nat_le fetch.size most_bytes) (nat_lt 0 fetch.id.0) (le-leb fetch.size most_bytes zip.0.size_fits)
-    (lt-ltb 0 fetch.id.0 (above-zero fetch.id.0 inventory.items zip.0.there.item above zip.0.there.there)))
-    ∙ ap (λ fs. fetch ∷ fs) (all-tried inventory fetches files above zip.1)
+    (and_from (nat_le fetch.size most_bytes) (nat_lt 0 fetch.id.0) (le-leb fetch.size most_bytes zip.0.size_fits) (lt-ltb 0 fetch.id.0 (omega (arith, found.above))))
+    ∙ ap (λ fs. fetch ∷ fs) (all-tried drive fetches files zip.1)
 
 -- ---- the steps in the folder
 pub makes-folders : (folders made : List (List (List ℕ))) (fetches : List Fetching) (before after : Option (List LocalStep)) → made ≡ folders → Makes (IsFolderOf made) NoFile before after
@@ -164,7 +144,7 @@ does-plan {IsFolder} {IsFile} image plan tried barred next faults_before faults_
         last = done.last;
         all_done = λ no_fault own alone files zip can_make can_place.
             let front = all_made.all local made.part told_local made.grown (each-first IsOp made.part done.part alone) can_make in
-            let here : tried ≡ plan.fetches = tried_are ∙ (ap (λ tops. filter (is_tried tops) plan.fetches) front.0 ∙ all-tried (held_by drive) plan.fetches files (numbers-above drive) zip) in
+            let here : tried ≡ plan.fetches = tried_are ∙ (ap (λ tops. filter (is_tried tops) plan.fetches) front.0 ∙ all-tried drive plan.fetches files zip) in
             let back =
             done.all no_fault own (each-second IsOp made.part done.part alone) files (subst (λ (fs : List Fetching). AllZip (IsFileOf (held_by drive)) fs files) (sym here) zip)
             (subst (λ spots. CanPlace spots files) (sym front.1) can_place)

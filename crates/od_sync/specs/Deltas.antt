@@ -1,8 +1,10 @@
 -- A request for changes is sent up to three times: again after a failure, and where the drive lacks memory.
-use Rattle.std.specs.Prelude.{◌≡◌, ◌⊎◌, ℕ, ◌-◌, ◌<◌, ◌≤◌, Bool, true, false, List, [], ◌∷◌, ◌++◌, count_by, Option, Some, None, Result, Ok, Err, IfOk, OnOk, OnErr, IsErrOf}
+use Rattle.std.specs.Prelude.{◌≡◌, ◌⊎◌, ℕ, ◌-◌, ◌<◌, ◌≤◌, Bool, true, false, ◌&&◌, List, [], ◌∷◌, ◌++◌, count_by, length, nat_lt, Option, Some, None, Result, Ok, Err, IfOk, OnOk, OnErr, IsErrOf}
+use Rattle.std.specs.List.{list_all}
 use Rattle.gd_names.specs.Streams.{Rose}
 use Rattle.gd_item.specs.Answers.{answer_of}
 use Rattle.gd_item.specs.Steps.{state_of}
+use Rattle.gd_item.specs.Written.{is_token_byte}
 use Rattle.gd_item.specs.declared.reply.Page.{Page}
 use Rattle.gd_item.specs.declared.reply.Reply.{Reply}
 use Rattle.gd_item.specs.declared.reply.Reply.TheVariants as reply
@@ -20,6 +22,11 @@ use Rattle.od_sync.specs.declared.delta.DeltaFault.TheVariants.{LinkFault, Unser
 abbrev pub is_delta : Request → Bool
 is_delta (Delta token) = true
 is_delta request = false
+
+-- whether a request for changes can carry a token
+abbrev pub is_written_token : Option (List ℕ) → Bool
+is_written_token None = true
+is_written_token (Some text) = nat_lt 0 (length text) && list_all is_token_byte text
 
 -- whether a step is a request of this client for changes, and whether it was answered
 abbrev pub is_own_delta : Step → Bool
