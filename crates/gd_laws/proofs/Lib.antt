@@ -6,11 +6,14 @@ pub mod Feeds
 pub mod Every
 pub mod FileSizes
 pub mod Files
+pub mod Leading
 pub mod Living
 pub mod Logs
 pub mod Marks
 pub mod Members
 pub mod Removals
+pub mod Replacing
 pub mod RisingNumbers
 pub mod Since
 pub mod Sounds
+pub mod Versions
