@@ -1,7 +1,8 @@
 -- Each answer of a drive is one that may come to the request.
-use Rattle.std.proofs.Common.{◌≡◌, ◌⊎◌, inl, inr, ℕ, Bool, true, false, not, ◌&&◌, ◌||◌, cond, nat_eq, nat_lt, nat_le, List, [], ◌∷◌, length, Option, Some, None, is_none, refl, sym, ap, ◌∙◌}
+use Rattle.std.proofs.Common.{◌≡◌, ◌⊎◌, inl, inr, ℕ, ◌-◌, ◌^◌, Bool, true, false, not, ◌&&◌, ◌||◌, cond, nat_eq, nat_lt, nat_le, List, [], ◌∷◌, length, map, Option, Some, None, is_none, refl, sym, ap, ◌∙◌}
 use Rattle.std.specs.Option.{option_map}
 use Rattle.std.proofs.lemmas.Bool.{or_left, or_right}
+use Rattle.gd_names.proofs.Small.{clear}
 use Rattle.gd_names.specs.declared.conflict.Settle.{Settle}
 use Rattle.gd_names.specs.declared.conflict.Settle.TheVariants as settle
 use Rattle.gd_item.specs.Answers.{refused, unserved, about, record_reply, made_or_is, effect_reply, children_reply, found_reply, content_reply, status_reply, more_reply, delta_reply, reply_to, answer_unless, bare_item, bare_reply, shown, answer, answer_of, answer_served}
@@ -10,12 +11,12 @@ use Rattle.gd_item.specs.Inventory.{Effect, Inventory, live_at}
 use Rattle.gd_item.specs.Moves.{patch_effect}
 use Rattle.gd_item.specs.Pages.{Asked, Past, Latest, Bad, Lost, asked, is_bad}
 use Rattle.gd_item.specs.Records.{record_at}
-use Rattle.gd_item.specs.Refusals.{settled_in, folder_effect, make_folder_effect, put_effect, touched, is_made}
-use Rattle.gd_item.specs.Refused.{Refusal, refuse, by_store, by_session, or_else, at_target, with_sessions, id_number, is_unlike, refusal}
+use Rattle.gd_item.specs.Refusals.{settled_in, folder_effect, make_folder_effect, put_refusal, put_effect, touched, is_made}
+use Rattle.gd_item.specs.Refused.{Refusal, refuse, by_store, by_session, or_else, at_target, with_sessions, but_quota, id_number, is_unlike, last_refusal, finish_refusal, refusal}
 use Rattle.gd_item.specs.Replies.{has_status, is_refused, is_made_or_is, is_page_or_gone, is_accepted_reply, may_answer}
 use Rattle.gd_item.specs.Requests.{kind_of}
-use Rattle.gd_item.specs.Sessions.{State, Session, held, session_at, finish_fault}
-use Rattle.gd_item.specs.Steps.{effects_at, finish_effects, fragment_effects, effects_of, after_request, state_of}
+use Rattle.gd_item.specs.Sessions.{State, Session, held, session_at, fragment_fault, finish_fault}
+use Rattle.gd_item.specs.Steps.{effects_at, commit_effect, finish_effects, fragment_effects, effects_of, after_request, state_of}
 use Rattle.gd_item.specs.Targets.{target_of, place_of, name_in}
 use Rattle.gd_item.specs.Versions.{version_at}
 use Rattle.gd_item.specs.declared.fault.ErrorCode.TheVariants.{InvalidRequest, ItemNotFound, GeneralException, QuotaLimitReached}
@@ -106,11 +107,20 @@ refusal-pair state (Content at) = store-pair _
 refusal-pair state (Download id version) = store-pair _
 refusal-pair state (OpenSession at name behaviour condition defer) =
     if-pair (is_unlike name (name_in at)) (Some (refuse 400 InvalidRequest)) _ refl
-    (else-pair _ _ (store-pair _) (if-pair _ (Some (refuse 507 QuotaLimitReached)) None refl tt))
-refusal-pair state (Fragment number first last total bytes) = else-pair _ _ (session-pair _) (store-pair _)
+    (else-pair (by_store (at_target (λ place. but_quota (put_refusal (held state) place [] behaviour condition 0)) (place_of (held state) at)))
+    (cond (nat_le 1000 (length state.sessions) || nat_le (2 ^ 64 - 1) (length state.openers)) (Some (refuse 507 QuotaLimitReached)) None)
+    (store-pair (at_target (λ place. but_quota (put_refusal (held state) place [] behaviour condition 0)) (place_of (held state) at)))
+    (if-pair (nat_le 1000 (length state.sessions) || nat_le (2 ^ 64 - 1) (length state.openers)) (Some (refuse 507 QuotaLimitReached)) None refl tt))
+refusal-pair state (Fragment number first last total bytes) =
+    let why : Option SessionFault = fragment_fault (held state).kept state.sessions (session_at number state.sessions) first last total bytes in
+    let also : Option StoreFault = last_refusal state (session_at number state.sessions) last total bytes in
+    else-pair (by_session why) (by_store also) (session-pair why) (store-pair also)
 refusal-pair state (SessionStatus number) = session-pair _
 refusal-pair state (CancelSession number) = session-pair _
-refusal-pair state (Finish number) = else-pair _ _ (session-pair _) (store-pair _)
+refusal-pair state (Finish number) =
+    let why : Option SessionFault = finish_fault (session_at number state.sessions) in
+    let also : Option StoreFault = finish_refusal state (session_at number state.sessions) in
+    else-pair (by_session why) (by_store also) (session-pair why) (store-pair also)
 refusal-pair state (Delta token) = if-pair (is_bad (asked state token)) (Some (refuse 400 InvalidRequest)) None refl tt
 
 -- ---- replies of the kind of a request
@@ -162,14 +172,14 @@ finished-there None rest allowed is = cc allowed
 finished-there (Some s) rest allowed is = cc is
 
 -- a fragment makes the file, or more is expected
+progress : (made : Bool) (item : Item) → may_answer kind.Fragment (made_or_is made item) ≡ true
+progress true item = refl
+progress false item = refl
+
 fragment-may : (before after : Inventory) (otherwise : Reply) (effects : List Effect) → may_answer kind.Fragment otherwise ≡ true → may_answer kind.Fragment (effect_reply before after otherwise effects) ≡ true
 fragment-may before after otherwise [] more = more
 fragment-may before after otherwise (effect ∷ effects) more =
-    about-may kind.Fragment (made_or_is (is_made effect)) (λ item. progress (is_made effect) item) (record_at (touched before effect) true after)
-  where
-    progress : (made : Bool) (item : Item) → may_answer kind.Fragment (made_or_is made item) ≡ true
-    progress true item = refl
-    progress false item = refl
+    about-may kind.Fragment (made_or_is (is_made effect)) (progress (is_made effect)) (record_at (touched before effect) true after)
 
 delta-may : (state : State) (size : ℕ) (a : Asked) → may_answer kind.Delta (delta_reply state size a) ≡ true
 delta-may state size (Past position start) = refl
@@ -235,15 +245,15 @@ shown-changes true (reply.Refused status code) is = is
 shown-changes true r (inl none) = absurd (cc none)
 shown-changes true r (inr same) = inr (ap bare_reply same)
 
-changes-for : (b : Bool) (state : State) (size : ℕ) (token : Option (List ℕ)) → IsChanges (answer_unless (cond b (Some (refuse 400 InvalidRequest)) None) state size (Delta token))
-changes-for true state size token = inr refl
-changes-for false state size token = changes-of state size (asked state token)
-
 changes-of : (state : State) (size : ℕ) (a : Asked) → IsChanges (delta_reply state size a)
 changes-of state size (Past position start) = inl refl
 changes-of state size Latest = inl refl
 changes-of state size Bad = inr refl
 changes-of state size (Lost resync) = inl refl
+
+changes-for : (b : Bool) (state : State) (size : ℕ) (token : Option (List ℕ)) → IsChanges (answer_unless (cond b (Some (refuse 400 InvalidRequest)) None) state size (Delta token))
+changes-for true state size token = inr refl
+changes-for false state size token = changes-of state size (asked state token)
 
 pub changes-log : (log : List Step) (size : ℕ) (token : Option (List ℕ)) → IsChanges (answer_of log size (Delta token))
 changes-log log size token =

@@ -1,4 +1,5 @@
 pub mod Allowed
+pub mod Answered
 pub mod Bounds
 pub mod Changes
 pub mod Counts
@@ -11,9 +12,11 @@ pub mod Living
 pub mod Logs
 pub mod Marks
 pub mod Members
+pub mod Pages
 pub mod Removals
 pub mod Replacing
 pub mod RisingNumbers
 pub mod Since
 pub mod Sounds
+pub mod Tokens
 pub mod Versions
