@@ -23,4 +23,5 @@ pub mod Serving
 pub mod Since
 pub mod Sounds
 pub mod Tokens
+pub mod Trees
 pub mod Versions

@@ -63,7 +63,7 @@ at-placed : (held : Inventory) (path : Option Path) (item : LiveItem) (entries :
 at-placed held None item entries is here all = all
 at-placed held (Some path) item entries is here all = (record { item = here; path = is }, all)
 
-all-placed : (held : Inventory) (items : List LiveItem) → AllByRecursion (IsHeld held) items
+pub all-placed : (held : Inventory) (items : List LiveItem) → AllByRecursion (IsHeld held) items
     → AllByRecursion (IsAt held) (placed (λ (item : LiveItem). item.number) (nodes_of held) items)
 all-placed held [] all = tt
 all-placed held (item ∷ items) all =
