@@ -1,10 +1,9 @@
 -- What an effect that is not refused finds in what a drive holds: a place for what is made, moved or put, and a folder in
 -- which nothing is left where one is removed.
-use Rattle.std.proofs.Common.{◌≡◌, ℕ, ◌+◌, ◌-◌, ◌^◌, ◌<◌, ◌≤◌, Bool, true, false, not, ◌||◌, cond, nat_eq, nat_lt, List, [], ◌∷◌, length, map, is_some, Option, Some, None, refl, sym, ap, ◌∙◌, subst, arith}
+use Rattle.std.proofs.Common.{◌≡◌, ℕ, ◌+◌, ◌-◌, ◌^◌, ◌<◌, ◌≤◌, true, false, not, ◌||◌, cond, nat_eq, nat_lt, List, [], ◌∷◌, length, map, is_some, Option, Some, None, refl, sym, ap, ◌∙◌, arith}
 use Rattle.std.specs.List.{All}
 use Rattle.std.specs.Option.{option_map}
-use Rattle.std.proofs.lemmas.Bool.{both_ways, or_parts}
-use Rattle.std.proofs.lemmas.List.{length-map}
+use Rattle.std.proofs.lemmas.Bool.{both_ways}
 use Rattle.gd_names.specs.Names.{name_fault}
 use Rattle.gd_names.specs.Settling.{is_taken}
 use Rattle.gd_names.specs.declared.conflict.Conflict.{Conflict}
@@ -16,8 +15,8 @@ use Rattle.gd_names.proofs.Settled.{settled-free, over-sibling}
 use Rattle.gd_names.proofs.Small.{clear, un-not, not-below, not-some}
 use Rattle.gd_item.specs.Inventory.{Inventory, Effect, MadeFolder, PutNew, PutOver, Moved, Removed, live_at, after}
 use Rattle.gd_item.specs.Moves.{is_in, is_taken_by_other, is_any_too_long, is_bad_name, name_of, new_parent, new_name, patch_refusal, patch_effect, removal_order, remove_refusal, remove_effects}
-use Rattle.gd_item.specs.Nodes.{Node, live_node, node_at, is_folder, below, path_of}
-use Rattle.gd_item.specs.Refusals.{is_there, is_met, is_too_long, is_over_quota, settled_in, siblings_in, folder_effect, file_effect, make_folder_refusal, make_folder_effect, put_over_refusal, put_under_refusal, put_refusal, put_effect}
+use Rattle.gd_item.specs.Nodes.{live_node, node_at, is_folder, below, path_of}
+use Rattle.gd_item.specs.Refusals.{is_there, is_met, is_too_long, is_over_quota, settled_in, siblings_in, folder_effect, file_effect, make_folder_refusal, make_folder_effect, put_over_refusal, put_refusal, put_effect}
 use Rattle.gd_item.specs.Sound.{IsItemMap}
 use Rattle.gd_item.specs.Trees.{nodes_of}
 use Rattle.gd_item.specs.declared.condition.Condition.{Condition}
@@ -26,7 +25,7 @@ use Rattle.gd_item.specs.declared.live.LiveItem.{LiveItem}
 use Rattle.gd_item.specs.declared.live.Place.{Place}
 use Rattle.gd_item.specs.declared.live.Place.TheVariants as place
 use Rattle.gd_item.proofs.Removing.{IsOrdered, removal-ordered}
-use Rattle.gd_laws.proofs.Allowed.{MayMake, may-make, MayPut, may-put, HasRoom, has-room, room-for-one, next-number}
+use Rattle.gd_laws.proofs.Allowed.{MayMake, may-make, MayPut, may-put, has-room, room-for-one, next-number}
 use Rattle.gd_laws.proofs.Counts.{siblings-few}
 use Rattle.gd_laws.proofs.Living.{of-living}
 use Rattle.gd_laws.proofs.Sounds.{few-items, over-file, over-room}

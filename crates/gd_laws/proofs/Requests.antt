@@ -1,7 +1,6 @@
 -- What a request that is not refused does: each of its effects finds what it needs, and the sessions and the bytes stay
 -- within their limits.
-use Rattle.std.proofs.Common.{◌≡◌, ℕ, ◌+◌, ◌-◌, ◌%◌, ◌^◌, ◌<◌, ◌≤◌, Bool, true, false, ◌&&◌, ◌||◌, not, cond, nat_eq, nat_lt, nat_le, List, [], ◌∷◌, ◌++◌, length, map, is_none, Option, Some, None, refl, sym, ap, subst, arith}
-use Rattle.std.specs.Option.{option_map}
+use Rattle.std.proofs.Common.{◌≡◌, ℕ, ◌+◌, ◌-◌, ◌%◌, ◌^◌, ◌<◌, ◌≤◌, Bool, true, false, ◌&&◌, ◌||◌, not, cond, nat_eq, nat_lt, nat_le, List, [], ◌∷◌, ◌++◌, length, map, is_none, Option, Some, None, refl, sym, subst, arith}
 use Rattle.std.proofs.lemmas.Bool.{and_parts, eqb-true, eqb-false, leb-false}
 use Rattle.std.proofs.lemmas.List.{length-append, length_push}
 use Rattle.gd_names.specs.declared.conflict.Conflict.{Conflict}
@@ -11,12 +10,11 @@ use Rattle.gd_names.proofs.Small.{un-not, neither, clear, mapped-none, not-below
 use Rattle.gd_item.specs.Inventory.{Inventory, Effect, Removed}
 use Rattle.gd_item.specs.Moves.{patch_refusal, patch_effect, remove_refusal, remove_effects, removal_order}
 use Rattle.gd_item.specs.Refusals.{settled_in, folder_effect, make_folder_refusal, make_folder_effect, file_effect, put_refusal, put_effect}
-use Rattle.gd_item.specs.Refused.{Refusal, refuse, by_store, by_session, or_else, at_target, with_sessions, but_quota, id_number, commit_refusal, last_refusal, finish_refusal, not_living, is_unlike, open_refusal, refusal}
+use Rattle.gd_item.specs.Refused.{by_store, or_else, at_target, with_sessions, id_number, commit_refusal, last_refusal, finish_refusal, is_unlike, refusal}
 use Rattle.gd_item.specs.Sessions.{State, Session, held, held_bytes, session_at, without_session, with_fragment, is_last, completes_file, is_completed, is_other_total, session_fragment_fault, fragment_fault, finish_fault}
 use Rattle.gd_item.specs.Steps.{effects_at, commit_effect, fragment_effects, finish_effects, effects_of, opened, sessions_of, openers_of}
 use Rattle.gd_item.specs.Targets.{target_of, place_of, name_in}
 use Rattle.gd_item.specs.declared.condition.Condition.{Condition}
-use Rattle.gd_item.specs.declared.fault.ErrorCode.TheVariants.{InvalidRequest, QuotaLimitReached}
 use Rattle.gd_item.specs.declared.fault.StoreFault.{StoreFault}
 use Rattle.gd_item.specs.declared.live.Place.{Place}
 use Rattle.gd_item.specs.declared.live.Place.TheVariants as place

@@ -1,5 +1,5 @@
 -- What holds of the sessions of a drive where one is opened, gets more bytes or ends.
-use Rattle.std.proofs.Common.{◌≡◌, ℕ, ◌+◌, ◌^◌, ◌<◌, ◌≤◌, Bool, true, false, not, cond, nat_eq, List, [], ◌∷◌, ◌++◌, length, map, filter, sum_by, count_by, Option, Some, None, refl, sym, ap, ◌∙◌, subst, arith}
+use Rattle.std.proofs.Common.{◌≡◌, ℕ, ◌+◌, ◌^◌, ◌<◌, ◌≤◌, Bool, true, false, not, cond, nat_eq, List, [], ◌∷◌, ◌++◌, length, map, Some, None, refl, sym, ap, ◌∙◌, subst, arith}
 use Rattle.std.specs.List.{All, AllPairs}
 use Rattle.std.proofs.lemmas.Bool.{eqb-true, ne_eqb}
 use Rattle.std.proofs.lemmas.List.{length-append, length-map, length_push}
@@ -13,7 +13,7 @@ use Rattle.gd_item.specs.Sessions.{Session, held_bytes, session_at, without_sess
 use Rattle.gd_item.specs.declared.condition.Condition.{Condition}
 use Rattle.gd_item.specs.declared.live.Place.{Place}
 use Rattle.gd_item.proofs.Pairs.{AllPairs-same_map}
-use Rattle.gd_laws.specs.EveryDrive.{IsFilledTo, IsOpen}
+use Rattle.gd_laws.specs.EveryDrive.{IsOpen}
 
 pub record IsServing (openers : ℕ) (sessions : List Session) : Type 0 where
   pub each : All (IsOpen openers) sessions

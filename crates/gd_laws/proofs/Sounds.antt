@@ -1,18 +1,17 @@
 -- What a drive has room for, and what stands over what.
-use Rattle.std.proofs.Common.{◌≡◌, ℕ, ◌+◌, ◌^◌, ◌<◌, ◌≤◌, true, false, not, cond, nat_eq, map, List, [], ◌∷◌, length, Option, Some, None, refl, sym, subst, arith}
+use Rattle.std.proofs.Common.{◌≡◌, ℕ, ◌+◌, ◌^◌, ◌<◌, ◌≤◌, false, not, cond, nat_eq, map, List, [], ◌∷◌, length, Option, Some, None, refl, sym, subst, arith}
 use Rattle.std.specs.List.{All}
 use Rattle.std.proofs.lemmas.List.Elements.{All-weaker}
 use Rattle.gd_names.specs.Caseless.{equal_caseless}
 use Rattle.gd_names.specs.declared.conflict.Conflict.{Conflict}
 use Rattle.gd_names.specs.declared.conflict.Sibling.{Sibling}
-use Rattle.gd_names.specs.declared.conflict.Settle.{Settle}
-use Rattle.gd_names.specs.declared.conflict.Settle.TheVariants.{Free, Over, Refuse}
+use Rattle.gd_names.specs.declared.conflict.Settle.TheVariants.{Over}
 use Rattle.gd_names.proofs.Settled.{over-sibling}
 use Rattle.gd_names.proofs.Small.{clear}
-use Rattle.gd_item.specs.Inventory.{Inventory, Effect, after, after_all, PutOver, Moved, Removed, live_at}
-use Rattle.gd_item.specs.Moves.{new_parent, new_name, is_bad_name, is_in, is_taken_by_other, is_any_too_long, patch_refusal, patch_effect, remove_refusal, removal_order, remove_effects}
+use Rattle.gd_item.specs.Inventory.{Inventory, after, after_all, Moved, Removed, live_at}
+use Rattle.gd_item.specs.Moves.{new_parent, new_name, is_bad_name, is_in, is_taken_by_other, is_any_too_long, patch_refusal, removal_order, remove_effects}
 use Rattle.gd_item.specs.Nodes.{is_folder, path_of}
-use Rattle.gd_item.specs.Refusals.{is_there, is_met, is_too_long, is_over_quota, settled_in, siblings_in, folder_effect, file_effect, make_folder_refusal, make_folder_effect, put_over_refusal, put_under_refusal}
+use Rattle.gd_item.specs.Refusals.{is_there, is_met, is_too_long, is_over_quota, settled_in, siblings_in, put_over_refusal}
 use Rattle.gd_item.specs.Sound.{IsWithin, IsItemMap}
 use Rattle.gd_item.specs.Trees.{nodes_of}
 use Rattle.gd_item.specs.declared.condition.Condition.{Condition}

@@ -1,5 +1,5 @@
 -- What holds of every drive, whatever its log.
-use Rattle.std.specs.Prelude.{◌≡◌, ◌≢◌, ℕ, ◌+◌, ◌^◌, ◌<◌, ◌≤◌, Bool, true, false, length, Option, Some, None}
+use Rattle.std.specs.Prelude.{◌≡◌, ◌≢◌, ℕ, ◌+◌, ◌^◌, ◌<◌, ◌≤◌, Bool, false, length, Option, Some, None}
 use Rattle.std.specs.List.{All, AllByRecursion, AllPairs}
 use Rattle.gd_names.specs.Names.{name_fault}
 use Rattle.gd_item.specs.Inventory.{Inventory, live_at}

@@ -1,4 +1,4 @@
-use Rattle.gd_laws.proofs.Logs.{kept-step}
+use Rattle.gd_laws.proofs.Every.{kept-step}
 use Rattle.gd_laws.proofs.laws.a_step_keeps_this.Goals as goal
 
 pub returns : goal.returns
