@@ -18,11 +18,11 @@ use Rattle.gd_item.specs.declared.live.LiveItem.{LiveItem}
 use Rattle.gd_item.specs.declared.live.Tombstone.{Tombstone}
 use Rattle.gd_item.specs.declared.step.Step.{Step}
 use Rattle.gd_item.proofs.LogsFeed.{rises-feed}
-use Rattle.gd_laws.specs.Changes.{IsRootEntry, IsLivingEntry, IsRemovedEntry, IsEntry}
+use Rattle.gd_laws.specs.Changes.{IsRootEntry, IsEntry}
 use Rattle.gd_laws.proofs.Changes.{AreApart, AllApart, all-apart}
 use Rattle.gd_laws.proofs.Every.{every-drive}
 use Rattle.gd_laws.proofs.Marks.{IsMarked, is-marked}
-use Rattle.gd_laws.proofs.Members.{SomeOf, Has, Paired, some-so, some-left, some-right, some-cases, each-has, any-from-some, some-from-any, contains-from-has, has-from-contains, paired, pairs-from}
+use Rattle.gd_laws.proofs.Members.{SomeOf, Has, Paired, some-left, some-right, some-cases, each-has, any-from-some, some-from-any, contains-from-has, has-from-contains, paired, pairs-from}
 
 -- ---- one change put among others
 abbrev put : List (ℕ × Item) → ℕ → Item → List (ℕ × Item)
@@ -250,6 +250,11 @@ module _ (held : Inventory) (sound : IsItemMap held) (marked : IsMarked held) (p
   all-there : (entries : List (ℕ × Item)) → ((e : ℕ × Item) → Has e entries → Has e (first_two ++ gone)) → AllByRecursion (λ (f : ℕ × Item). Has f (first_two ++ gone)) entries
   all-there [] there = tt
   all-there (e ∷ entries) there = (there e (inl refl), all-there entries (λ f has. there f (inr has)))
+
+  -- what holds of each such entry holds of each of the feed
+  pub feed-each : (P : ℕ × Item → Type 0) → ((e : ℕ × Item) → IsEntry held position start e → P e) → AllByRecursion P (feed held position start)
+  feed-each P so =
+      each-so (λ (f : ℕ × Item). Has f (first_two ++ gone)) P (λ f has. so f (from-changes f has)) (feed held position start) (all-there (feed held position start) in-feed)
 
   pub feed-once : AllPairs (λ (x y : ℕ × Item). x.1.id ≢ y.1.id) (feed held position start)
   feed-once =
