@@ -25,9 +25,9 @@ use Rattle.gd_names.proofs.Small.{not-root}
 use Rattle.gd_names.proofs.Ordered.{all-in-order-from}
 use Rattle.gd_store.proofs.Climbs.{node_at-live}
 use Rattle.gd_store.proofs.Given.{given-ok}
-use Rattle.od_mirror.specs.Drive.{placed_items}
+use Rattle.gd_laws.specs.Placed.{placed_items}
 use Rattle.od_mirror.specs.Pulled.{paths_of, with_records}
-use Rattle.od_mirror.proofs.Mapped.{mapped}
+use Rattle.gd_names.proofs.Mapped.{mapped}
 use Rattle.od_mirror.proofs.Standing.{paths-of-placed}
 use Rattle.od_cli.specs.Pulled.{whole_items, AreListed, IsFileAt, IsListed}
 use Rattle.od_cli.proofs.Pulls.{records-are, sound-of}

@@ -13,7 +13,7 @@ use Rattle.gd_names.proofs.Each.{each, each-so}
 use Rattle.gd_names.proofs.Ordered.{all-in-order-from}
 use Rattle.gd_item.proofs.LogsGrow.{accepted-log}
 use Rattle.gd_item.proofs.LogsVersions.{IsKnown, known-inventory}
-use Rattle.od_mirror.specs.Drive.{placed_items}
+use Rattle.gd_laws.specs.Placed.{placed_items}
 use Rattle.od_tree.specs.Collisions.{placed_by, contents, NoCollision}
 use Rattle.od_tree.specs.Local.{bytes_in, local_of, local_tree}
 use Rattle.od_tree.specs.Loss.{writes}

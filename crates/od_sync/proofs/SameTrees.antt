@@ -9,7 +9,7 @@ use Rattle.gd_item.specs.declared.item.Item.{Item}
 use Rattle.gd_item.specs.declared.step.Step.{Step}
 use Rattle.gd_laws.proofs.Logs.{sound-log}
 use Rattle.gd_item.specs.Views.{uncounted}
-use Rattle.od_mirror.specs.Drive.{placed_items}
+use Rattle.gd_laws.specs.Placed.{placed_items}
 use Rattle.od_mirror.specs.Pulled.{paths_of}
 use Rattle.od_mirror.proofs.Standing.{paths-of-placed, tree-of-placed}
 use Rattle.od_tree.specs.Collisions.{contents, NoCollision}

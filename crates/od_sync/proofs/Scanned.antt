@@ -9,7 +9,7 @@ use Rattle.gd_names.specs.Ordered.{in_order}
 use Rattle.gd_item.specs.Places.{last_name}
 use Rattle.gd_item.specs.Records.{digest_record}
 use Rattle.gd_names.proofs.Ordered.{Path, Rises, In, kept, all-in, all-in-order-from, rises-in-order-from, in-order-has, kept-in-order, rises-kept}
-use Rattle.od_mirror.proofs.Mapped.{mapped, in-order-mapped}
+use Rattle.gd_names.proofs.Mapped.{mapped, in-order-mapped}
 use Rattle.od_tree.specs.Listing.{is_right_below, entries_in, entry_of}
 use Rattle.od_tree.specs.Local.{is_path, is_from, spot_at, file_at, file_in, is_folder_spot, is_folder_at, bytes_in, tree_of_spots}
 use Rattle.od_tree.specs.Shape.{IsTree}
