@@ -8,10 +8,6 @@ pub mod Scanned
 pub mod Finding
 pub mod LeftAlone
 pub mod Undisturbing
-pub mod KeptPullMaps
-pub mod KeptPullTold
-pub mod KeptPullFeed
-pub mod KeptPullItems
 pub mod KeptPullPage
 pub mod KeptPull
 pub mod Made
