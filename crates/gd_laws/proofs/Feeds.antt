@@ -251,6 +251,11 @@ module _ (held : Inventory) (sound : IsItemMap held) (marked : IsMarked held) (p
   all-there [] there = tt
   all-there (e ∷ entries) there = (there e (inl refl), all-there entries (λ f has. there f (inr has)))
 
+  -- what holds of each such entry holds of each of the feed
+  pub feed-each : (P : ℕ × Item → Type 0) → ((e : ℕ × Item) → IsEntry held position start e → P e) → AllByRecursion P (feed held position start)
+  feed-each P so =
+      each-so (λ (f : ℕ × Item). Has f (first_two ++ gone)) P (λ f has. so f (from-changes f has)) (feed held position start) (all-there (feed held position start) in-feed)
+
   pub feed-once : AllPairs (λ (x y : ℕ × Item). x.1.id ≢ y.1.id) (feed held position start)
   feed-once =
       pairs-from (λ (x y : ℕ × Item). x.1.id ≢ y.1.id) (feed held position start)

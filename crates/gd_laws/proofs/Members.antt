@@ -43,6 +43,17 @@ module _ {X : Type 0} where
   each-has P x (y ∷ xs) all (inl same) = subst P (sym same) all.0
   each-has P x (y ∷ xs) all (inr later) = each-has P x xs all.1 later
 
+  -- what holds of one that is there holds of some
+  pub some-is : (P : X → Type 0) (x : X) (xs : List X) → P x → Has x xs → SomeOf P xs
+  some-is P x [] holds has = absurd has
+  some-is P x (y ∷ xs) holds (inl same) = inl (subst P same holds)
+  some-is P x (y ∷ xs) holds (inr later) = inr (some-is P x xs holds later)
+
+  pub has-some : (P : X → Type 0) (xs : List X) → SomeOf P xs → (x : X) × Has x xs × P x
+  has-some P [] some = absurd some
+  has-some P (x ∷ xs) (inl here) = (x, inl refl, here)
+  has-some P (x ∷ xs) (inr later) = let rest : (y : X) × Has y xs × P y = has-some P xs later in (rest.0, inr rest.1, rest.2)
+
   -- what a test keeps
   has-if : (b : Bool) (test : X → Bool) (x y : X) (xs : List X) → test y ≡ b → test x ≡ true → Has x (y ∷ xs) → (Has x xs → Has x (filter test xs))
       → Has x (cond b (y ∷ filter test xs) (filter test xs))

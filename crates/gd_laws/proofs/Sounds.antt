@@ -1,32 +1,27 @@
--- What a store holds stays a tree.
-use Rattle.std.proofs.Common.{◌≡◌, ℕ, ◌+◌, ◌^◌, ◌<◌, ◌≤◌, true, false, not, cond, nat_eq, map, List, [], ◌∷◌, length, Option, Some, None, refl, sym, subst, arith}
+-- What a drive has room for, and what stands over what.
+use Rattle.std.proofs.Common.{◌≡◌, ℕ, ◌+◌, ◌^◌, ◌<◌, ◌≤◌, false, not, cond, nat_eq, map, List, [], ◌∷◌, length, Option, Some, None, refl, sym, subst, arith}
 use Rattle.std.specs.List.{All}
 use Rattle.std.proofs.lemmas.List.Elements.{All-weaker}
 use Rattle.gd_names.specs.Caseless.{equal_caseless}
 use Rattle.gd_names.specs.declared.conflict.Conflict.{Conflict}
 use Rattle.gd_names.specs.declared.conflict.Sibling.{Sibling}
-use Rattle.gd_names.specs.declared.conflict.Settle.{Settle}
-use Rattle.gd_names.specs.declared.conflict.Settle.TheVariants.{Free, Over, Refuse}
-use Rattle.gd_names.proofs.Settled.{settled-free, over-sibling}
-use Rattle.gd_item.specs.Inventory.{Inventory, Effect, after, after_all, PutOver, Moved, Removed, live_at}
-use Rattle.gd_item.specs.Moves.{new_parent, new_name, is_bad_name, is_in, is_taken_by_other, is_any_too_long, patch_refusal, patch_effect, remove_refusal, removal_order, remove_effects}
+use Rattle.gd_names.specs.declared.conflict.Settle.TheVariants.{Over}
+use Rattle.gd_names.proofs.Settled.{over-sibling}
+use Rattle.gd_names.proofs.Small.{clear}
+use Rattle.gd_item.specs.Inventory.{Inventory, after, after_all, Moved, Removed, live_at}
+use Rattle.gd_item.specs.Moves.{new_parent, new_name, is_bad_name, is_in, is_taken_by_other, is_any_too_long, patch_refusal, removal_order, remove_effects}
 use Rattle.gd_item.specs.Nodes.{is_folder, path_of}
-use Rattle.gd_item.specs.Refusals.{is_there, is_met, is_too_long, is_over_quota, settled_in, siblings_in, folder_effect, file_effect, make_folder_refusal, make_folder_effect, put_over_refusal, put_under_refusal}
+use Rattle.gd_item.specs.Refusals.{is_there, is_met, is_too_long, is_over_quota, settled_in, siblings_in, put_over_refusal}
 use Rattle.gd_item.specs.Sound.{IsWithin, IsItemMap}
 use Rattle.gd_item.specs.Trees.{nodes_of}
 use Rattle.gd_item.specs.declared.condition.Condition.{Condition}
 use Rattle.gd_item.specs.declared.fault.StoreFault.{StoreFault}
 use Rattle.gd_item.specs.declared.live.LiveItem.{LiveItem}
 use Rattle.gd_item.specs.declared.fault.StoreFault.TheVariants.{NotFound, NotFolder, NotFile, Root, BadName, Modified, IntoItself, NameTaken, PathTooLong, Quota}
-use Rattle.gd_item.proofs.Effects.{next-inventory, number-positive}
-use Rattle.gd_item.proofs.Moving.{sound-moved}
-use Rattle.gd_item.proofs.Removing.{sound-removed-all}
-use Rattle.gd_item.proofs.Soundness.{sound-folder, sound-file, sound-over}
-use Rattle.gd_laws.proofs.Allowed.{MayMake, may-make, MayPut, may-put, clear, un-not, HasRoom, has-room, next-number}
-use Rattle.gd_laws.proofs.Counts.{siblings-few}
+use Rattle.gd_laws.proofs.Allowed.{HasRoom, has-room, next-number}
 use Rattle.gd_laws.proofs.Files.{file-at}
 
-few-items : (held : Inventory) (items bytes : ℕ) → HasRoom held items bytes → length held.items < 100000
+pub few-items : (held : Inventory) (items bytes : ℕ) → HasRoom held items bytes → length held.items < 100000
 few-items held items bytes room = let few : length held.items + 1 + items ≤ 100000 = room.few in omega arith
 
 -- a file that stands in a folder is one by its number
@@ -37,40 +32,8 @@ over-file held parent name behaviour number sound is =
     let P : ℕ → Type 0 = λ n. is_folder n (nodes_of held) ≡ false in
     subst P over.2 (file-at (λ (s : Sibling). equal_caseless s.name name) parent held.items over.0 sound.numbers big over.1 over.3)
 
--- a folder that is made
-folder-sound : (held : Inventory) (parent : ℕ) (name : List ℕ) (behaviour : Conflict) (settle : Settle) → IsItemMap held → 1 < held.next → 0 < held.number → settled_in held parent name behaviour true ≡ settle
-    → MayMake held parent name settle → IsItemMap (after held (folder_effect parent name settle))
-folder-sound held parent name behaviour (Free free) sound next number is may =
-    sound-folder held parent free sound next number may.there may.folder
-    (settled-free behaviour (siblings_in parent held.items) name free true (siblings-few parent 100000 held.items held.items (siblings_in parent held.items) refl refl (few-items held _ 0 may.room)) is)
-folder-sound held parent name behaviour (Over id) sound next number is may =
-    let over = over-sibling behaviour (siblings_in parent held.items) name true id is in
-    let not_true : true ≡ false = over.4 in
-    absurd cc
-folder-sound held parent name behaviour Refuse sound next number is may = let had : true ≡ false = may.had in absurd cc
-
-folder-light : (held : Inventory) (parent : ℕ) (name : List ℕ) (settle : Settle) → held.kept ≤ 536870912 → (after held (folder_effect parent name settle)).kept ≤ 536870912
-folder-light held parent name (Free free) light = light
-folder-light held parent name (Over id) light = light
-folder-light held parent name Refuse light = light
-
-file-light : (held : Inventory) (parent : ℕ) (name bytes : List ℕ) (others : ℕ) (settle : Settle) → MayPut held parent name bytes others settle → (after held (file_effect parent name bytes settle)).kept ≤ 536870912
-file-light held parent name bytes others (Free free) may = let light : held.kept + (length bytes + others) ≤ 536870912 = may.room.light in omega arith
-file-light held parent name bytes others (Over id) may = let light : held.kept + (length bytes + others) ≤ 536870912 = may.room.light in omega arith
-file-light held parent name bytes others Refuse may = let light : held.kept + (length bytes + others) ≤ 536870912 = may.room.light in omega arith
-
--- a file that is put under a folder
-under-sound : (held : Inventory) (parent : ℕ) (name bytes : List ℕ) (behaviour : Conflict) (others : ℕ) (settle : Settle) → IsItemMap held → 1 < held.next → 0 < held.number → settled_in held parent name behaviour false ≡ settle
-    → MayPut held parent name bytes others settle → IsItemMap (after held (file_effect parent name bytes settle))
-under-sound held parent name bytes behaviour others (Free free) sound next number is may =
-    sound-file held parent free bytes sound next number may.there may.folder
-    (settled-free behaviour (siblings_in parent held.items) name free false (siblings-few parent 100000 held.items held.items (siblings_in parent held.items) refl refl (few-items held _ _ may.room)) is)
-under-sound held parent name bytes behaviour others (Over id) sound next number is may =
-    sound-over held id bytes sound number (over-file held parent name behaviour id sound is)
-under-sound held parent name bytes behaviour others Refuse sound next number is may = let had : true ≡ false = may.had in absurd cc
-
 -- the drive has room for a file that is put over another
-over-room : (held : Inventory) (number : ℕ) (bytes : List ℕ) (condition : Condition) (others : ℕ) → None ≡ put_over_refusal held number bytes condition others → HasRoom held 0 (length bytes + others)
+pub over-room : (held : Inventory) (number : ℕ) (bytes : List ℕ) (condition : Condition) (others : ℕ) → None ≡ put_over_refusal held number bytes condition others → HasRoom held 0 (length bytes + others)
 over-room held number bytes condition others allowed =
     let full : Option StoreFault = cond (is_over_quota held 0 (length bytes + others)) (Some Quota) None in
     let long : Option StoreFault = cond (is_too_long (path_of (nodes_of held) number)) (Some PathTooLong) full in
@@ -83,7 +46,7 @@ over-room held number bytes condition others allowed =
     let e : is_over_quota held 0 (length bytes + others) ≡ false = (clear (is_over_quota held 0 (length bytes + others)) Quota None d.1).0 in
     has-room held 0 (length bytes + others) e
 
-over-light : (held : Inventory) (number : ℕ) (bytes : List ℕ) (condition : Condition) (others : ℕ) → None ≡ put_over_refusal held number bytes condition others → held.kept + length bytes ≤ 536870912
+pub over-light : (held : Inventory) (number : ℕ) (bytes : List ℕ) (condition : Condition) (others : ℕ) → None ≡ put_over_refusal held number bytes condition others → held.kept + length bytes ≤ 536870912
 over-light held number bytes condition others allowed =
     let light : held.kept + (length bytes + others) ≤ 536870912 = (over-room held number bytes condition others allowed).light in
     omega arith

@@ -1,6 +1,6 @@
 -- What holds of every drive, whatever its log.
-use Rattle.std.specs.Prelude.{◌≡◌, ◌≢◌, ℕ, ◌+◌, ◌^◌, ◌<◌, ◌≤◌, Bool, true, false, length, Option, Some, None}
-use Rattle.std.specs.List.{All, AllPairs}
+use Rattle.std.specs.Prelude.{◌≡◌, ◌≢◌, ℕ, ◌+◌, ◌^◌, ◌<◌, ◌≤◌, Bool, false, length, Option, Some, None}
+use Rattle.std.specs.List.{All, AllByRecursion, AllPairs}
 use Rattle.gd_names.specs.Names.{name_fault}
 use Rattle.gd_item.specs.Inventory.{Inventory, live_at}
 use Rattle.gd_item.specs.Nodes.{path_of}
@@ -17,11 +17,11 @@ use Rattle.gd_item.specs.declared.live.Version.{Version}
 -- an item that was removed: its number was given and no living item has it, and its change number is no living item's
 pub record IsGone (held : Inventory) (stone : Tombstone) : Type 0 where
   pub above : 1 < stone.number
-  pub below : stone.number < held.next
+  pub made : stone.number < held.next
   pub later : 1 < stone.change
   pub done : stone.change ≤ held.number
-  pub unlisted : live_at stone.number held.items ≡ None
-  pub own_change : All (λ (item : LiveItem). item.change ≢ stone.change) held.items
+  pub gone : live_at stone.number held.items ≡ None
+  pub apart : AllByRecursion (λ (item : LiveItem). item.change ≢ stone.change) held.items
 
 -- the bytes of a session come up to its whole length, where that is known, and else there are none; all of them stand
 -- only where the session is deferred
@@ -40,7 +40,7 @@ pub record EveryDrive (state : State) : Type 0 where
   pub tree : IsItemMap (held state)
   pub few : length (held state).items < 100000
   pub names : All (λ (item : LiveItem). name_fault item.name ≡ None) (held state).items
-  pub paths : All (λ (item : LiveItem). is_too_long (path_of (nodes_of (held state)) item.number) ≡ false) (held state).items
+  pub paths : (number : ℕ) → is_too_long (path_of (nodes_of (held state)) number) ≡ false
   -- their bytes, those of every version, and what counts against the limit
   pub sizes : All (λ (item : LiveItem). size_of item.bytes ≤ 67108864) (held state).items
   pub versions : All (λ (version : Version). length version.bytes ≤ 67108864) (accepted state.effects)

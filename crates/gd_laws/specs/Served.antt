@@ -43,4 +43,4 @@ pub record IsPagePast (state : State) (position start size : ℕ) (page : Page) 
 -- a last page has the whole feed past a position, and its token stands at the drive's number
 pub record IsLastPast (state : State) (position start : ℕ) (page : Page) (end : List ℕ) : Type 0 where
   pub items : page.items ≡ shown_items state.plain (values_of (feed (held state) position start))
-  pub end : end ≡ token_text (record { epoch = state.epoch; position = (held state).number; start = start })
+  pub token : end ≡ token_text (record { epoch = state.epoch; position = (held state).number; start = start })

@@ -14,9 +14,10 @@ use Rattle.gd_item.specs.declared.item.Item.{Item}
 use Rattle.gd_item.specs.declared.live.LiveItem.{LiveItem}
 use Rattle.gd_item.specs.declared.live.Tombstone.{Tombstone}
 use Rattle.gd_laws.specs.Changes.{IsEntry}
+use Rattle.gd_laws.specs.EveryDrive.{IsGone}
 use Rattle.gd_laws.proofs.Feeds.{feed-entries, feed-once}
 use Rattle.gd_laws.proofs.Living.{Rising, of-living}
-use Rattle.gd_laws.proofs.Marks.{IsGone, IsMarked}
+use Rattle.gd_laws.proofs.Marks.{IsMarked}
 use Rattle.gd_laws.proofs.Members.{SomeOf, Has, Paired, some-so, some-from-any, any-from-some, each-has, contains-from-has, has-from-contains, paired}
 use Rattle.gd_laws.proofs.Since.{is_removal, was_removed}
 use Rattle.od_mirror.proofs.Numbered.{record_at, above-root}
@@ -154,7 +155,7 @@ module _ (R : Item → Item → Type 0) (f : Item → Item) (held : Inventory) (
         let numbered : stone.number ≡ n = number-is (deleted_record stone) n (ap (λ (x : ℕ × Item). (shown x).id.0) (sym is) ∙ at) in
         let above : 1 < stone.number = gone.above in
         both-at (now n before) None (record_at n held) None (given ∙ ap (λ (x : ℕ × Item). standing (shown x).kind before (shown x)) is ∙ shows.gone before stone)
-        (other-now n None (λ one. absurd (omega (arith, one, numbered, above))) (ap (λ m. live_at m held.items) (sym numbered) ∙ gone.gone)) tt
+        (other-now n None (λ one. absurd (omega (arith, one, numbered, above))) (ap (λ m. live_at m held.items) (sym numbered) ∙ gone.unlisted)) tt
 
     is-entry : (e : ℕ × Item) → now n before ≡ standing (shown e).kind before (shown e) → (shown e).id.0 ≡ n → IsEntry held position start e → Both R (now n before) (record_at n held)
     is-entry e given at (inl root) = is-root e given at root.1

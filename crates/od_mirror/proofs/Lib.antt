@@ -2,7 +2,6 @@ pub mod Based
 pub mod Climbing
 pub mod Fed
 pub mod Keyed
-pub mod Mapped
 pub mod Misfits
 pub mod Numbered
 pub mod Placing

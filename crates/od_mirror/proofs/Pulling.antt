@@ -25,8 +25,8 @@ use Rattle.gd_laws.specs.EveryDrive.{EveryDrive}
 use Rattle.gd_laws.specs.Served.{shown_items, IsLastPast}
 use Rattle.gd_laws.proofs.Every.{every-drive}
 use Rattle.gd_laws.proofs.Marks.{IsMarked, is-marked}
+use Rattle.gd_laws.proofs.Pages.{last-of-token, last-of-none}
 use Rattle.gd_laws.proofs.Since.{IsSince, is-since}
-use Rattle.gd_laws.proofs.Tokens.{last-past, last-first}
 use Rattle.od_mirror.specs.Pulled.{Pulled, begun, after_page, after_link, with_records, nodes, IsView, IsLeastBad}
 use Rattle.od_mirror.specs.Pulls.{IsLastPage, token_then}
 use Rattle.od_mirror.specs.declared.view.MirrorView.{MirrorView}
@@ -156,24 +156,24 @@ module _ (log : List Step) (page : Page) where
   gives-kept : (items : List Item) (text : List ℕ) (token : Token) → token_of_text text ≡ Some token → IsPulled items token log → (last : IsLastPage log (Some text) page)
       → Gives log (values_of (after_page (begun items (Some text)) page).items) last.end
   gives-kept items text token read pulled last =
-      let past : IsLastPast (state_of log) token.position token.start page last.end = last-past log last.size text last.end token page read last.given last.link_is in
+      let past : IsLastPast (state_of log) token.position token.start page last.end = last-of-token log last.size text last.end token page read last.given last.link_is in
       let early : token.start ≤ token.position = pulled.start in
       let late : token.position ≤ number_of log = pulled.position in
       record {
         are = subst (λ given. AreItemsOf (state_of log).plain given (records_of (held_by log))) (sym (taken items (Some text) token.position token.start last.end past)) (kept-are log items token pulled);
         start = token.start;
         early = omega (arith, early, late);
-        end_is = past.end;
+        end_is = past.token;
       }
 
   gives-first : (last : IsLastPage log None page) → Gives log (values_of (after_page (begun [] None) page).items) last.end
   gives-first last =
-      let past : IsLastPast (state_of log) 0 (number_of log) page last.end = last-first log last.size last.end page last.given last.link_is in
+      let past : IsLastPast (state_of log) 0 (number_of log) page last.end = last-of-none log last.size last.end page last.given last.link_is in
       record {
         are = subst (λ given. AreItemsOf (state_of log).plain given (records_of (held_by log))) (sym (taken [] None 0 (number_of log) last.end past)) (first-are log (number_of log));
         start = number_of log;
         early = omega arith;
-        end_is = past.end;
+        end_is = past.token;
       }
 
   gives : (items : List Item) (token : Option (List ℕ)) → ItemsAre items log token → (last : IsLastPage log token page) → Gives log (values_of (after_page (begun items token) page).items) last.end
@@ -214,12 +214,12 @@ module _ (log : List Step) (page : Page) where
 
   pub first-items : (view : MirrorView) → IsLastPage log None page → IsView (after_page (begun [] None) page) view → (state_of log).plain ≡ false → view.items ≡ records_of (held_by log)
   first-items view last is whole =
-      let past : IsLastPast (state_of log) 0 (number_of log) page last.end = last-first log last.size last.end page last.given last.link_is in
+      let past : IsLastPast (state_of log) 0 (number_of log) page last.end = last-of-none log last.size last.end page last.given last.link_is in
       is.items ∙ taken [] None 0 (number_of log) last.end past
       ∙ ap (λ b. values_of (with_records [] (shown_items b (values_of (feed (held_by log) 0 (number_of log)))))) whole
       ∙ feed-gives-all (held_by log) (tree log) (marked log) (number_of log)
 
   pub first-token : (view : MirrorView) → IsLastPage log None page → IsView (after_page (begun [] None) page) view → view.token ≡ token_then log
   first-token view last is =
-      let past : IsLastPast (state_of log) 0 (number_of log) page last.end = last-first log last.size last.end page last.given last.link_is in
-      token-is [] None last view is ∙ past.end
+      let past : IsLastPast (state_of log) 0 (number_of log) page last.end = last-of-none log last.size last.end page last.given last.link_is in
+      token-is [] None last view is ∙ past.token

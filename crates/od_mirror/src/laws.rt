@@ -7,7 +7,7 @@ ghost use Rattle.gd_item.specs.Records.{feed, record_of, records_of};
 ghost use Rattle.gd_item.specs.Sound.{IsItemMap};
 ghost use Rattle.gd_item.specs.Steps.{state_of, held_by};
 ghost use Rattle.gd_item.specs.Views.{uncounted, ItemsAre};
-ghost use Rattle.od_mirror.specs.Drive.{placed_items};
+ghost use Rattle.gd_laws.specs.Placed.{placed_items};
 ghost use Rattle.od_mirror.specs.Pulled.{begun, after_page, with_records, nodes, IsView, AllFit, IsLeastBad, paths_of};
 ghost use Rattle.od_mirror.specs.Pulls.{IsLastPage, token_then};
 

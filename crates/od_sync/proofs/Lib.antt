@@ -8,7 +8,6 @@ pub mod Scanned
 pub mod Finding
 pub mod LeftAlone
 pub mod Undisturbing
-pub mod KeptPullPage
 pub mod KeptPull
 pub mod Made
 pub mod Placed
@@ -37,13 +36,9 @@ pub mod LooksFound
 pub mod RecordDigests
 pub mod SameItems
 pub mod PullWalks
-pub mod PageTokens
 pub mod OwnRequests
 pub mod Chained
 pub mod PathsBelow
-pub mod FreshPlansPaths
-pub mod FreshPlansKeys
-pub mod FreshPlansHeld
 pub mod FreshPlansTrees
 pub mod FreshPlansSpots
 pub mod FreshPlansItems
