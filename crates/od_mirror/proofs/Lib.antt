@@ -11,3 +11,4 @@ pub mod Rooted
 pub mod Shown
 pub mod Standing
 pub mod Told
+pub mod Uncounted

@@ -1,6 +1,5 @@
 pub mod Sends
 pub mod PulledViews
-pub mod FirstPull
 pub mod Looks
 pub mod Compared
 pub mod Below
@@ -28,7 +27,6 @@ pub mod Rounding
 pub mod Running
 pub mod SyncsSaid
 pub mod Uncounted
-pub mod Placing
 pub mod Contents
 pub mod SameTrees
 pub mod HadThen
@@ -38,7 +36,6 @@ pub mod SameItems
 pub mod PullWalks
 pub mod OwnRequests
 pub mod Chained
-pub mod PathsBelow
 pub mod FreshPlansTrees
 pub mod FreshPlansSpots
 pub mod FreshPlansItems
