@@ -8,7 +8,7 @@ use Rattle.gd_names.proofs.Small.{none-given, not-below}
 use Rattle.gd_item.specs.Answers.{answer_of, answer_unless, reply_to, refused, delta_reply, bare_item, bare_reply, shown}
 use Rattle.gd_item.specs.Pages.{Asked, Bad, Latest, Lost, asked, asked_unless, asked_by_token, token_fault, is_bad, page_past, page_link}
 use Rattle.gd_item.specs.Records.{feed, first_of, last_of}
-use Rattle.gd_item.specs.Refused.{Refusal, refuse, refusal}
+use Rattle.gd_item.specs.Refused.{Refusal, refuse}
 use Rattle.gd_item.specs.Sessions.{State, held}
 use Rattle.gd_item.specs.Steps.{after_request, state_of, number_of}
 use Rattle.gd_item.specs.Tokens.{token_text, token_of_text}
