@@ -1,11 +1,11 @@
 -- What a client has of a drive's items stays that while the drive's log grows. Of a drive that is not plain, it is the drive's
 -- records but for the numbers of children.
 use Rattle.std.proofs.Common.{◌≡◌, ℕ, ◌-◌, ◌≤◌, ◌⊎◌, inl, inr, Bool, true, false, List, [], ◌∷◌, ◌++◌, length, map, take, Option, Some, None, refl, ap, sym, subst, ◌∙◌, arith}
-use Rattle.std.proofs.lemmas.List.{take-append-le}
+use Rattle.std.proofs.lemmas.List.{take_all, take-append-le}
 use Rattle.std.specs.List.{AllZip}
 use Rattle.gd_item.specs.Inventory.{Effect, Inventory, inventory}
 use Rattle.gd_item.specs.Records.{records_of}
-use Rattle.gd_item.specs.Steps.{state_of, number_of, held_at}
+use Rattle.gd_item.specs.Steps.{state_of, held_by, number_of, held_at}
 use Rattle.gd_item.specs.Tokens.{token_of_text}
 use Rattle.gd_item.specs.Views.{uncounted, IsItemOf, AreItemsOf, IsPulled, TokenIs, ItemsAre}
 use Rattle.gd_item.specs.declared.item.Item.{Item}
@@ -70,3 +70,6 @@ token-later items log more (Some token) is = pulled-later items token log more i
 pub items-later : (items : List Item) (token : Option (List ℕ)) (log more : List Step) → ItemsAre items log token → ItemsAre items (log ++ more) token
 items-later items None log more are = are
 items-later items (Some text) log more are = token-later items log more (token_of_text text) are
+
+pub held_at-now : (log : List Step) → held_at (number_of log) log ≡ held_by log
+held_at-now log = ap inventory (take_all (number_of log - 1) (state_of log).effects (omega (arith, number-inventory (state_of log).effects)))

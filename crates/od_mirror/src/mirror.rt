@@ -197,7 +197,7 @@ fn known_from(kind: Kind) -> Kind
 
 /// The kind of a file whose record gives no digest, beside the item that stands at its number.
 fn known_kind(etag: &Tag, standing: Option<&Item>) -> Kind
-    ensures { result ≡ known_kind etag.now (option_copied standing) }
+    ensures { result ≡ known_kind etag.now (option_copied standing.entry) }
 {
     match standing {
         Some(item) => {
@@ -217,8 +217,9 @@ fn put_bare(items: &mut BTreeMap<u64, Item>, mut item: Item) -> Result<(), NoMem
     ensures ok { OnOk result (items.new.entries ≡ insert_entry nat_cmp items.old.entries item.id.0 (known_item items.old.entries item)) }
     ensures keyed { IsKeyed items.old.entries → IsKeyed items.new.entries }
 {
-    item.kind = known_kind(&item.etag, items.get(&item.id.0));
-    items.insert(item.id.0, item)?;
+    let number = item.id.0;
+    item.kind = known_kind(&item.etag, items.get(&number));
+    items.insert(number, item)?;
     Ok(())
 }
 

@@ -1,15 +1,10 @@
 pub mod Sends
 pub mod PulledViews
-pub mod FirstPull
 pub mod Looks
 pub mod Compared
 pub mod Scanned
 pub mod Finding
 pub mod Undisturbing
-pub mod KeptPullMaps
-pub mod KeptPullTold
-pub mod KeptPullFeed
-pub mod KeptPullItems
 pub mod KeptPull
 pub mod Made
 pub mod Placed
@@ -29,7 +24,6 @@ pub mod Rounding
 pub mod Running
 pub mod SyncsSaid
 pub mod Uncounted
-pub mod Placing
 pub mod Contents
 pub mod SameTrees
 pub mod HadThen
@@ -39,7 +33,6 @@ pub mod SameItems
 pub mod PullWalks
 pub mod OwnRequests
 pub mod Chained
-pub mod PathsBelow
 pub mod FreshPlansTrees
 pub mod FreshPlansSpots
 pub mod FreshPlansItems

@@ -5,7 +5,7 @@ use Rattle.gd_item.specs.declared.item.Item.{Item}
 use Rattle.gd_item.specs.declared.reply.Page.{Page}
 use Rattle.gd_item.specs.declared.request.Request.TheVariants.{Delta}
 use Rattle.gd_item.specs.declared.step.Step.{Step}
-use Rattle.od_mirror.specs.Pulled.{Pulled, begun, after_page, nodes, IsLeastBad}
+use Rattle.od_mirror.specs.Pulled.{Pulled, begun, after_page, nodes, IsView, IsLeastBad}
 use Rattle.od_mirror.specs.declared.view.MirrorView.{MirrorView}
 use Rattle.od_sync.specs.Deltas.{DeltaAsks, PageHeard}
 use Rattle.od_sync.specs.Pulls.{LastPage, Pulls, StopsBad}

@@ -1,40 +1,39 @@
--- Maps in order of number: what stands at a number, also where an entry was put or removed. Two maps with the same
--- look-ups are one.
-use Rattle.std.proofs.Common.{◌≡◌, ℕ, ◌<◌, inl, inr, Bool, true, false, cond, nat_eq, List, [], ◌∷◌, map, Option, Some, None, refl, ap, sym, subst, ◌∙◌, arith}
+-- Maps in order of number: what stands at a number, also where an entry was put or removed. Where two maps have what belongs
+-- together at each number, so do their values, place by place.
+use Rattle.std.proofs.Common.{◌≡◌, ℕ, ◌<◌, inl, inr, Bool, true, false, cond, nat_eq, List, [], ◌∷◌, Option, Some, None, refl, ap, sym, subst, ◌∙◌, arith}
 use Rattle.std.proofs.lemmas.Bool.{cases_order, eqb-true, eq-eqb, ne_eqb}
 use Rattle.std.specs.BTreeMap.{is_at}
 use Rattle.std.specs.Cmp.{nat_cmp_is}
-use Rattle.std.specs.List.{AllByRecursion}
-use Rattle.std.specs.Map.{values_of, remove_entry}
-use Rattle.std.specs.Option.{option_map}
+use Rattle.std.specs.List.{AllByRecursion, AllZip}
+use Rattle.std.specs.Map.{values_of, lookup, remove_entry}
 use Rattle.std.specs.Ordering.{nat_cmp, is_eq}
 use Rattle.std.specs.declared.cmp.Ordering.TheVariants.{Less, Equal, Greater}
 use Rattle.gd_names.proofs.Each.{each-so}
-use Rattle.od_mirror.proofs.Inserted.{put, put-less, put-equal, put-greater, all-put}
+use Rattle.gd_names.proofs.Inserted.{put, put-less, put-equal, put-greater, all-put}
 
 pub same-number : (n : ℕ) → nat_eq n n ≡ true
 same-number n = eq-eqb n n refl
 
 -- ---- one choice after another
 module _ {Y : Type 0} where
-  pub twice : (b : Bool) (v w d : Y) → cond b v (cond b w d) ≡ cond b v d
+  twice : (b : Bool) (v w d : Y) → cond b v (cond b w d) ≡ cond b v d
   twice true v w d = refl
   twice false v w d = refl
 
-  pub crossed : (b c : Bool) (v w d : Y) → (b ≡ true → c ≡ true → ⊥) → cond b v (cond c w d) ≡ cond c w (cond b v d)
+  crossed : (b c : Bool) (v w d : Y) → (b ≡ true → c ≡ true → ⊥) → cond b v (cond c w d) ≡ cond c w (cond b v d)
   crossed true true v w d apart = absurd (apart refl refl)
   crossed true false v w d apart = refl
   crossed false true v w d apart = refl
   crossed false false v w d apart = refl
 
-  pub either-way : (b : Bool) (d : Y) → cond b d d ≡ d
+  either-way : (b : Bool) (d : Y) → cond b d d ≡ d
   either-way true d = refl
   either-way false d = refl
 
 two-numbers : (a b n : ℕ) → (a ≡ b → ⊥) → nat_eq a n ≡ true → nat_eq b n ≡ true → ⊥
 two-numbers a b n apart first second = apart (eqb-true a n first ∙ sym (eqb-true b n second))
 
--- whether a removal is at a number
+-- a query of the map for a number
 test-at : (k j : ℕ) → is_at (nat_cmp k) j ≡ nat_eq j k
 test-at k j =
     elim (cases_order k j) [
@@ -51,6 +50,10 @@ module _ {X : Type 0} where
   look n [] = None
   look n (e ∷ es) = cond (nat_eq e.0 n) (Some e.1) (look n es)
 
+  pub looked-up : (n : ℕ) (es : List (ℕ × X)) → lookup (is_at (nat_cmp n)) es ≡ look n es
+  looked-up n [] = refl
+  looked-up n (e ∷ es) = ap (λ b. cond b (Some e.1) (lookup (is_at (nat_cmp n)) es)) (test-at n e.0) ∙ ap (λ d. cond (nat_eq e.0 n) (Some e.1) d) (looked-up n es)
+
   -- the numbers rise
   abbrev pub Up : List (ℕ × X) → Type 0
   Up [] = Unit {0}
@@ -64,6 +67,9 @@ module _ {X : Type 0} where
   none-above n (e ∷ es) above =
       let other : nat_eq e.0 n ≡ false = ne_eqb e.0 n (λ is. absurd (omega (arith, is, above.0))) in
       rw (other) (none-above n es above.1)
+
+  pub look-first : (e : ℕ × X) (es : List (ℕ × X)) → look e.0 (e ∷ es) ≡ Some e.1
+  look-first e es = ap (λ b. cond b (Some e.1) (look e.0 es)) (same-number e.0)
 
   -- ---- one more entry
   pub look-put : (n k : ℕ) (v : X) (es : List (ℕ × X)) → look n (put es k v) ≡ cond (nat_eq k n) (Some v) (look n es)
@@ -130,69 +136,56 @@ module _ {X : Type 0} where
         | false ↦ (all-without (λ (f : ℕ × X). e.0 < f.0) k es up.0, up-without k es up.1)
       ]
 
-  -- ---- the same look-ups
-  not-there : (e : ℕ × X) (es fs : List (ℕ × X)) → AllByRecursion (λ (f : ℕ × X). e.0 < f.0) fs → ((n : ℕ) → look n (e ∷ es) ≡ look n fs) → ⊥
-  not-there e es fs above same =
-      let here : cond (nat_eq e.0 e.0) (Some e.1) (look e.0 es) ≡ Some e.1 = ap (λ b. cond b (Some e.1) (look e.0 es)) (same-number e.0) in
-      let none : look e.0 fs ≡ None = none-above e.0 fs above in
-      let is : Some e.1 ≡ None = sym here ∙ same e.0 ∙ none in
-      cc
+-- ---- two maps
+-- two things that belong together, or none
+abbrev pub Both : {X Y : Type 0} → (X → Y → Type 0) → Option X → Option Y → Type 0
+Both R None None = Unit {0}
+Both R None (Some y) = ⊥
+Both R (Some x) None = ⊥
+Both R (Some x) (Some y) = R x y
 
-  rest-at : (b c : Bool) (v w : X) (d g : Option X) → (b ≡ true → d ≡ None) → (b ≡ true → g ≡ None) → b ≡ c → cond b (Some v) d ≡ cond c (Some w) g → d ≡ g
-  rest-at true c v w d g first second is same = first refl ∙ sym (second refl)
-  rest-at false true v w d g first second is same = absurd (cc is)
-  rest-at false false v w d g first second is same = same
+module _ {X Y : Type 0} (R : X → Y → Type 0) where
+  nothing-there : (e : ℕ × X) (es : List (ℕ × X)) (found : Option Y) → found ≡ None → Both R (look e.0 (e ∷ es)) found → ⊥
+  nothing-there e es found none both =
+      let at : Both R (Some e.1) found = subst (λ here. Both R here found) (look-first e es) both in
+      let alone : Both R (Some e.1) None = subst (λ there. Both R (Some e.1) there) none at in
+      alone
 
-  none-at : (k n : ℕ) (es : List (ℕ × X)) → AllByRecursion (λ (e : ℕ × X). k < e.0) es → nat_eq k n ≡ true → look n es ≡ None
-  none-at k n es above at = subst (λ m. look m es ≡ None) (eqb-true k n at) (none-above k es above)
+  nothing-here : (f : ℕ × Y) (fs : List (ℕ × Y)) (found : Option X) → found ≡ None → Both R found (look f.0 (f ∷ fs)) → ⊥
+  nothing-here f fs found none both =
+      let at : Both R found (Some f.1) = subst (λ there. Both R found there) (look-first f fs) both in
+      let alone : Both R None (Some f.1) = subst (λ here. Both R here (Some f.1)) none at in
+      alone
 
-  first-values : (e f : ℕ × X) (es fs : List (ℕ × X)) → e.0 ≡ f.0 → ((n : ℕ) → look n (e ∷ es) ≡ look n (f ∷ fs)) → e ≡ f
-  first-values e f es fs at same =
-      let ours : cond (nat_eq e.0 e.0) (Some e.1) (look e.0 es) ≡ Some e.1 = ap (λ b. cond b (Some e.1) (look e.0 es)) (same-number e.0) in
-      let theirs : cond (nat_eq f.0 e.0) (Some f.1) (look e.0 fs) ≡ Some f.1 = ap (λ b. cond b (Some f.1) (look e.0 fs)) (eq-eqb f.0 e.0 (sym at)) in
-      let both : Some e.1 ≡ Some f.1 = sym ours ∙ same e.0 ∙ theirs in
-      let value : e.1 ≡ f.1 = cc in
-      ap (λ j. (j, e.1)) at ∙ ap (λ v. (f.0, v)) value
+  rest-at : (b c : Bool) (v : X) (w : Y) (d : Option X) (g : Option Y) → (b ≡ true → d ≡ None) → (b ≡ true → g ≡ None) → b ≡ c → Both R (cond b (Some v) d) (cond c (Some w) g) → Both R d g
+  rest-at true c v w d g first second is both = subst (λ here. Both R here g) (sym (first refl)) (subst (λ there. Both R None there) (sym (second refl)) tt)
+  rest-at false true v w d g first second is both = absurd (cc is)
+  rest-at false false v w d g first second is both = both
 
-  pub same-looks : (es fs : List (ℕ × X)) → Up es → Up fs → ((n : ℕ) → look n es ≡ look n fs) → es ≡ fs
-  same-looks [] [] up other same = refl
-  same-looks [] (f ∷ fs) up other same = absurd (not-there f fs [] tt (λ n. sym (same n)))
-  same-looks (e ∷ es) [] up other same = absurd (not-there e es [] tt same)
-  same-looks (e ∷ es) (f ∷ fs) up other same =
+  none-at : {Z : Type 0} (k n : ℕ) (es : List (ℕ × Z)) → AllByRecursion (λ (e : ℕ × Z). k < e.0) es → nat_eq k n ≡ true → look n es ≡ None
+  none-at {Z} k n es above at = subst (λ m. look m es ≡ None) (eqb-true k n at) (none-above k es above)
+
+  firsts-at : (e : ℕ × X) (f : ℕ × Y) (es : List (ℕ × X)) (fs : List (ℕ × Y)) → e.0 ≡ f.0 → Both R (look e.0 (e ∷ es)) (look e.0 (f ∷ fs)) → R e.1 f.1
+  firsts-at e f es fs at both =
+      let there : look e.0 (f ∷ fs) ≡ Some f.1 = ap (λ k. look k (f ∷ fs)) at ∙ look-first f fs in
+      let here : Both R (Some e.1) (look e.0 (f ∷ fs)) = subst (λ found. Both R found (look e.0 (f ∷ fs))) (look-first e es) both in
+      let joined : Both R (Some e.1) (Some f.1) = subst (λ found. Both R (Some e.1) found) there here in
+      joined
+
+  pub zip-looks : (es : List (ℕ × X)) (fs : List (ℕ × Y)) → Up es → Up fs → ((n : ℕ) → Both R (look n es) (look n fs)) → AllZip R (values_of es) (values_of fs)
+  zip-looks [] [] up other both = tt
+  zip-looks [] (f ∷ fs) up other both = absurd (nothing-here f fs None refl (both f.0))
+  zip-looks (e ∷ es) [] up other both = absurd (nothing-there e es None refl (both e.0))
+  zip-looks (e ∷ es) (f ∷ fs) up other both =
       elim (cases_order e.0 f.0) [
-        | inl at ↦
-            ap (λ first. first ∷ es) (first-values e f es fs at same)
-            ∙ ap (λ rest. f ∷ rest)
-            (same-looks es fs up.1 other.1
-            (λ n. rest-at (nat_eq e.0 n) (nat_eq f.0 n) e.1 f.1 (look n es) (look n fs) (none-at e.0 n es up.0)
-            (λ is. none-at f.0 n fs other.0 (subst (λ j. nat_eq j n ≡ true) at is)) (ap (λ j. nat_eq j n) at) (same n)))
+        | inl at ↦ (
+          firsts-at e f es fs at (both e.0),
+          zip-looks es fs up.1 other.1
+              (λ n. rest-at (nat_eq e.0 n) (nat_eq f.0 n) e.1 f.1 (look n es) (look n fs) (none-at e.0 n es up.0)
+              (λ is. none-at f.0 n fs other.0 (subst (λ k. nat_eq k n ≡ true) at is)) (ap (λ k. nat_eq k n) at) (both n)),
+        )
         | inr apart ↦ elim apart [
-          | inl less ↦ absurd (not-there e es (f ∷ fs) (less, above-too e.0 f.0 fs less other.0) same)
-          | inr more ↦ absurd (not-there f fs (e ∷ es) (more, above-too f.0 e.0 es more up.0) (λ n. sym (same n)))
+          | inl less ↦ absurd (nothing-there e es (look e.0 (f ∷ fs)) (none-above e.0 (f ∷ fs) (less, above-too e.0 f.0 fs less other.0)) (both e.0))
+          | inr more ↦ absurd (nothing-here f fs (look f.0 (e ∷ es)) (none-above f.0 (e ∷ es) (more, above-too f.0 e.0 es more up.0)) (both f.0))
         ]
       ]
-
--- ---- a map with other values
-module _ {X Y : Type 0} (f : X → Y) where
-  abbrev pub each_value : List (ℕ × X) → List (ℕ × Y)
-  each_value es = map (λ (e : ℕ × X). (e.0, f e.1)) es
-
-  value-at : (b : Bool) (v : X) (d : Option X) → cond b (Some (f v)) (option_map f d) ≡ option_map f (cond b (Some v) d)
-  value-at true v d = refl
-  value-at false v d = refl
-
-  pub look-each : (n : ℕ) (es : List (ℕ × X)) → look n (each_value es) ≡ option_map f (look n es)
-  look-each n [] = refl
-  look-each n (e ∷ es) = ap (λ d. cond (nat_eq e.0 n) (Some (f e.1)) d) (look-each n es) ∙ value-at (nat_eq e.0 n) e.1 (look n es)
-
-  above-each : (k : ℕ) (es : List (ℕ × X)) → AllByRecursion (λ (e : ℕ × X). k < e.0) es → AllByRecursion (λ (e : ℕ × Y). k < e.0) (each_value es)
-  above-each k [] above = tt
-  above-each k (e ∷ es) above = (above.0, above-each k es above.1)
-
-  pub up-each : (es : List (ℕ × X)) → Up es → Up (each_value es)
-  up-each [] up = tt
-  up-each (e ∷ es) up = (above-each e.0 es up.0, up-each es up.1)
-
-  pub values-each : (es : List (ℕ × X)) → values_of (each_value es) ≡ map f (values_of es)
-  values-each [] = refl
-  values-each (e ∷ es) = ap (λ more. f e.1 ∷ more) (values-each es)
