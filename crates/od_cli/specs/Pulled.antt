@@ -5,8 +5,8 @@ use Rattle.std.specs.List.{All}
 use Rattle.std.specs.Map.{values_of}
 use Rattle.hex.specs.Hex.{encode_lower}
 use Rattle.gd_names.specs.Paths.{path_text}
-use Rattle.gd_item.specs.Inventory.{Inventory, live_at}
-use Rattle.gd_item.specs.Records.{feed, record_of, removals}
+use Rattle.gd_item.specs.Inventory.{Effect, Inventory, inventory, live_at}
+use Rattle.gd_item.specs.Records.{feed, record_of}
 use Rattle.gd_item.specs.Sound.{IsItemMap}
 use Rattle.gd_item.specs.Versions.{content_at, version_at}
 use Rattle.gd_item.specs.declared.item.Item.{Item}
@@ -33,10 +33,9 @@ whole_items held = values_of (feed held 0 held.number)
 
 -- the page is the one page of a fresh enumeration of a drive
 pub record IsWhole (page : Page) : Type 0 where
-  pub drive : Inventory
-  pub sound : IsItemMap drive
-  pub no_removals : removals 0 drive.number drive.removed ≡ []
-  pub items : page.items ≡ whole_items drive
+  pub effects : List Effect
+  pub sound : IsItemMap (inventory effects)
+  pub items : page.items ≡ whole_items (inventory effects)
   pub last : taken_of page.link ≡ Last
 
 -- the bytes that a drive has of an item, if it is a file

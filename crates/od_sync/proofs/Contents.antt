@@ -23,7 +23,7 @@ use Rattle.od_tree.specs.declared.local.Spot.{Spot}
 use Rattle.od_tree.specs.declared.step.LocalStep.{LocalStep}
 use Rattle.od_tree.proofs.Contained.{contents_known, more_contents}
 use Rattle.od_sync.proofs.Compared.{IsAmong}
-use Rattle.od_sync.proofs.Placing.{Each, each-in-order}
+use Rattle.od_mirror.proofs.Placing.{Each, each-in-order}
 
 -- ---- in the folder
 file-among : (known : List (List ℕ)) (file : Option LocalFile) → IsOneOf known file → IsAmong known (bytes_in file)
