@@ -22,7 +22,7 @@ use Rattle.gd_item.specs.Records.{records_of}
 use Rattle.od_mirror.specs.Pulled.{Pulled, begun, after_link, after_page, with_records, nodes, is_bad, IsLeastBad, taken_of}
 use Rattle.od_mirror.specs.declared.mirror.Taken.{Taken}
 use Rattle.od_mirror.specs.declared.mirror.Taken.TheVariants.{Last, More}
-use Rattle.od_mirror.proofs.Pulling.{feed-gives-all}
+use Rattle.od_mirror.proofs.Pulling.{feed-gives-all, link-items}
 use Rattle.od_mirror.proofs.Standing.{records-fit}
 use Rattle.od_cli.specs.Pulled.{whole_items, IsWhole}
 use Rattle.od_cli.specs.Worlds.{page_size}
@@ -42,14 +42,10 @@ sound-of held log stands = subst IsItemMap stands.held stands.sound
 pub whole-of : (page : Page) (held : Inventory) (log : List Effect) → store.Stands held log → page.items ≡ whole_items (inventory log) → taken_of page.link ≡ Last → IsWhole page
 whole-of page held log stands is last = record { effects = log; sound = sound-of held log stands; items = is; last = last }
 
-after-link : (items : List (ℕ × Item)) (l : PageLink) → (after_link items l).items ≡ items
-after-link items (link.Next token) = refl
-after-link items (link.Delta token) = refl
-
 -- what was pulled is what the page has
 pub pulled-is : (none : List Item) (page : Page) (before after : Pulled) → none ≡ [] → before ≡ begun none None → after ≡ after_page before page → values_of after.items ≡ values_of (with_records [] page.items)
 pulled-is none page before after empty start taken =
-    ap (λ (p : Pulled). values_of p.items) taken ∙ ap values_of (after-link (with_records before.items page.items) page.link)
+    ap (λ (p : Pulled). values_of p.items) taken ∙ ap values_of (link-items (with_records before.items page.items) page.link)
     ∙ ap (λ (p : Pulled). values_of (with_records p.items page.items)) (start ∙ ap (λ (xs : List Item). begun xs None) empty)
 
 -- the records of a fresh enumeration give what the drive holds
