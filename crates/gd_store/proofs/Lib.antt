@@ -1,9 +1,6 @@
-pub mod Allowed
 pub mod Changes
 pub mod Climbs
-pub mod Counts
 pub mod Feeds
-pub mod Files
 pub mod Given
 pub mod Gives
 pub mod Insides
