@@ -101,23 +101,23 @@ pub step-handled : (old new : DriveValue) (log : List Step) (request : Request) 
     → reply ≡ reply_of result → Stands old log → new.size ≡ old.size → refusal (state_of log) request ≡ by_store fault → sessions_of (state_of log) request ≡ (state_of log).sessions
     → store.Answers fault result (λ reply. (reply ≡ reply_to (state_of log) (after_request (state_of log) Own request) size request) × store.Stands new.store ((state_of log).effects ++ effects_of (state_of log) request))
     → OnErr result (new ≡ old) → Handles old new log request reply (answer (state_of log) size request)
-step-handled old new log request size fault (Ok given) reply made stands same cause sessions answer kept =
+step-handled old new log request size fault (Ok given) reply made stands same cause sessions told kept =
     let state = state_of log in
-    let none : refusal state request ≡ None = cause ∙ ap by_store answer.ok.0 in
+    let none : refusal state request ≡ None = cause ∙ ap by_store told.ok.0 in
     let taken : is_accepted state request true ≡ true = ap is_none none in
     record {
       answered = inl (
-        made ∙ answer.ok.1.0 ∙ sym (answer-whole state size request stands.plain none),
+        made ∙ told.ok.1.0 ∙ sym (answer-whole state size request stands.plain none),
         λ who heard.
             accepted-step new log who request true heard taken
-            (record { size = subst IsPageSize (sym same) stands.size; store = answer.ok.1.1; sessions = sessions ∙ stands.sessions; epoch = stands.epoch; floor = stands.floor; plain = stands.plain }),
+            (record { size = subst IsPageSize (sym same) stands.size; store = told.ok.1.1; sessions = sessions ∙ stands.sessions; epoch = stands.epoch; floor = stands.floor; plain = stands.plain }),
       );
     }
-step-handled old new log request size fault (Err why) reply made stands same cause sessions answer kept =
+step-handled old new log request size fault (Err why) reply made stands same cause sessions told kept =
     let state = state_of log in
     let P : DriveValue → Type 0 = λ d. Handles old d log request reply (answer state size request) in
     let Q : Reply → Type 0 = λ r. Handles old old log request r (answer state size request) in
-    subst P (sym kept) (elim answer.err [
+    subst P (sym kept) (elim told.err [
       | inl memory ↦ subst Q (sym (made ∙ ap (λ f. refused (refuse (status_of f) (code_of f))) memory)) (unserved-handled old log request _ stands)
       | inr is ↦ subst Q (sym made) (refused-handled old log request (refuse (status_of why) (code_of why)) size stands (cause ∙ ap by_store is))
     ])
@@ -127,16 +127,16 @@ pub read-handled : (drive : DriveValue) (log : List Step) (request : Request) (s
     → reply ≡ reply_of result → Stands drive log → refusal (state_of log) request ≡ by_store fault → effects_of (state_of log) request ≡ [] → sessions_of (state_of log) request ≡ (state_of log).sessions
     → store.Answers fault result (λ reply. reply ≡ reply_to (state_of log) (after_request (state_of log) Own request) size request)
     → Handles drive drive log request reply (answer (state_of log) size request)
-read-handled drive log request size fault (Ok given) reply made stands cause effects sessions answer =
+read-handled drive log request size fault (Ok given) reply made stands cause effects sessions told =
     let state = state_of log in
-    let none : refusal state request ≡ None = cause ∙ ap by_store answer.ok.0 in
+    let none : refusal state request ≡ None = cause ∙ ap by_store told.ok.0 in
     record {
-      answered = inl (made ∙ answer.ok.1 ∙ sym (answer-whole state size request stands.plain none), λ who heard. read-step drive log who request true heard effects sessions stands);
+      answered = inl (made ∙ told.ok.1 ∙ sym (answer-whole state size request stands.plain none), λ who heard. read-step drive log who request true heard effects sessions stands);
     }
-read-handled drive log request size fault (Err why) reply made stands cause effects sessions answer =
+read-handled drive log request size fault (Err why) reply made stands cause effects sessions told =
     let state = state_of log in
     let Q : Reply → Type 0 = λ r. Handles drive drive log request r (answer state size request) in
-    elim answer.err [
+    elim told.err [
       | inl memory ↦ subst Q (sym (made ∙ ap (λ f. refused (refuse (status_of f) (code_of f))) memory)) (unserved-handled drive log request _ stands)
       | inr is ↦ subst Q (sym made) (refused-handled drive log request (refuse (status_of why) (code_of why)) size stands (cause ∙ ap by_store is))
     ]
@@ -169,8 +169,8 @@ pub step-by-store : (drive inside : DriveValue) (new : Inventory) (log : List St
     → reply ≡ reply_of result → Stands drive log → refusal (state_of log) request ≡ by_store fault → sessions_of (state_of log) request ≡ (state_of log).sessions
     → store.Answers fault result (λ reply. (reply ≡ reply_to (state_of log) (after_request (state_of log) Own request) drive.size request) × store.Stands new ((state_of log).effects ++ effects_of (state_of log) request))
     → OnErr result (new ≡ inside.store) → Handles drive (record { store = new; size = inside.size }) log request reply (answer (state_of log) drive.size request)
-step-by-store drive inside new log request fault result reply is made stands cause sessions answer kept =
-    step-handled drive (record { store = new; size = inside.size }) log request drive.size fault result reply made stands (ap (λ (d : DriveValue). d.size) is) cause sessions answer (kept-inside drive inside new result is kept)
+step-by-store drive inside new log request fault result reply is made stands cause sessions told kept =
+    step-handled drive (record { store = new; size = inside.size }) log request drive.size fault result reply made stands (ap (λ (d : DriveValue). d.size) is) cause sessions told (kept-inside drive inside new result is kept)
 
 -- a reply that refuses leaves the drive as it was
 pub refusal-kept : (drive inside : DriveValue) (new : Inventory) (result : Result Reply StoreFault) (reply : Reply) → inside ≡ drive → reply ≡ reply_of result → IfOk result (λ given. is_refusal given ≡ false)

@@ -91,8 +91,10 @@ fn content_at(store: &Store, id: ItemId) -> Result<Reply, StoreFault>
     ensures answer { (log : List Effect) → Stands store.now log
         → result ≡ given_unless (file_refusal (inventory log) id.0) (content_reply (inventory log) id.0) }
 {
-    let version = store.content_number(id)?;
-    Ok(Reply::Found { id, version })
+    match store.content_number(id) {
+        Ok(version) => Ok(Reply::Found { id, version }),
+        Err(fault) => Err(fault),
+    }
 }
 
 /// Where the bytes of the file that an address names are to be had. Takes no memory.

@@ -1,5 +1,6 @@
 -- An item that is there, or was just added or changed, has a record.
 use Rattle.std.proofs.Common.{◌≡◌, ℕ, ◌+◌, Bool, true, false, ◌||◌, cond, nat_eq, List, [], ◌∷◌, ◌++◌, map, filter, is_some, Option, Some, None, refl, sym, ap, ◌∙◌, subst, eq-eqb}
+use Rattle.std.proofs.lemmas.Bool.{or_right}
 use Rattle.std.specs.List.{find}
 use Rattle.std.specs.Option.{option_map}
 use Rattle.gd_names.specs.Caseless.{equal_caseless}
@@ -17,7 +18,8 @@ use Rattle.gd_item.specs.Trees.{nodes_of}
 use Rattle.gd_item.specs.declared.condition.Condition.{Condition}
 use Rattle.gd_item.specs.declared.item.Item.{Item}
 use Rattle.gd_item.specs.declared.live.LiveItem.{LiveItem}
-use Rattle.gd_store.proofs.Climbs.{node_at-live}
+use Rattle.gd_laws.proofs.Found.{node-of-live}
+use Rattle.gd_laws.proofs.Living.{live-changed}
 
 mapped-some : {X Y : Type 0} (f : X → Y) (found : Option X) → is_some (option_map f found) ≡ is_some found
 mapped-some f None = refl
@@ -26,7 +28,7 @@ mapped-some f (Some x) = refl
 -- a number is there that is the root's or that of a living item
 there-is : (number : ℕ) (items : List LiveItem) → is_there number (map live_node items) ≡ (nat_eq number 1 || is_some (live_at number items))
 there-is number items =
-    ap (λ found. nat_eq number 1 || is_some found) (node_at-live number items) ∙ ap (λ b. nat_eq number 1 || b) (mapped-some live_node (live_at number items))
+    ap (λ found. nat_eq number 1 || is_some found) (node-of-live number items) ∙ ap (λ b. nat_eq number 1 || b) (mapped-some live_node (live_at number items))
 
 given : (one : Bool) (root : Item) (record_it : LiveItem → Item) (found : Option LiveItem) → (one || is_some found) ≡ true → None ≡ cond one (Some root) (option_map record_it found) → ⊥
 given true root record_it found there none = cc
@@ -45,36 +47,21 @@ live-added (first ∷ items) item =
     elim (nat_eq first.number item.number) as (λ b. is_some (cond b (Some first) (live_at item.number (items ++ item ∷ []))) ≡ true)
     [ true ↦ refl | false ↦ live-added items item ]
 
-or-true : (a b : Bool) → b ≡ true → (a || b) ≡ true
-or-true true b is = refl
-or-true false b is = is
-
 pub added-recorded : (old new : Inventory) (item : LiveItem) (with_path : Bool) → new.items ≡ old.items ++ item ∷ [] → None ≡ record_at item.number with_path new → ⊥
 added-recorded old new item with_path is none =
     let IsThere : List LiveItem → Type 0 = λ items. is_there item.number (map live_node items) ≡ true in
     let there : IsThere (old.items ++ item ∷ []) =
-    there-is item.number (old.items ++ item ∷ []) ∙ or-true (nat_eq item.number 1) (is_some (live_at item.number (old.items ++ item ∷ []))) (live-added old.items item) in
+    there-is item.number (old.items ++ item ∷ []) ∙ or_right (nat_eq item.number 1) (is_some (live_at item.number (old.items ++ item ∷ []))) (live-added old.items item) in
     recorded new item.number with_path (subst IsThere (sym is) there) none
 
 -- a change of an item that keeps its number
-either-some : {X : Type 0} (b : Bool) (x y : X) (rest : Option X) → is_some (cond b (Some x) rest) ≡ is_some (cond b (Some y) rest)
-either-some true x y rest = refl
-either-some false x y rest = refl
-
-live-changed : (number other : ℕ) (f : LiveItem → LiveItem) → ((item : LiveItem) → (f item).number ≡ item.number) → (items : List LiveItem) → is_some (live_at number (changed other f items)) ≡ is_some (live_at number items)
-live-changed number other f same [] = refl
-live-changed number other f same (item ∷ items) =
-    elim (nat_eq item.number other) as (λ b. is_some (live_at number (cond b (f item ∷ items) (item ∷ changed other f items))) ≡ is_some (live_at number (item ∷ items))) [
-      | true ↦
-          ap (λ n. is_some (cond (nat_eq n number) (Some (f item)) (live_at number items))) (same item)
-          ∙ either-some (nat_eq item.number number) (f item) item (live_at number items)
-      | false ↦ elim (nat_eq item.number number) as (λ b. is_some (cond b (Some item) (live_at number (changed other f items))) ≡ is_some (cond b (Some item) (live_at number items)))
-          [ true ↦ refl | false ↦ live-changed number other f same items ]
-    ]
+changed-some : (b : Bool) (f : LiveItem → LiveItem) (found : Option LiveItem) → is_some (cond b (option_map f found) found) ≡ is_some found
+changed-some true f found = mapped-some f found
+changed-some false f found = refl
 
 pub there-changed : (number other : ℕ) (f : LiveItem → LiveItem) (items : List LiveItem) → ((item : LiveItem) → (f item).number ≡ item.number) → is_there number (map live_node items) ≡ true → is_there number (map live_node (changed other f items)) ≡ true
 there-changed number other f items same there =
-    there-is number (changed other f items) ∙ ap (λ b. nat_eq number 1 || b) (live-changed number other f same items) ∙ sym (there-is number items) ∙ there
+    there-is number (changed other f items) ∙ ap (λ b. nat_eq number 1 || b) (ap is_some (live-changed number other f items same) ∙ changed-some (nat_eq other number) f (live_at number items)) ∙ sym (there-is number items) ∙ there
 
 -- an item that was just moved
 pub moved-recorded : (old new : Inventory) (number : ℕ) (name : Option (List ℕ)) (parent : Option ℕ) (condition : Condition) (with_path : Bool) → patch_refusal old number name parent condition ≡ None
@@ -120,7 +107,7 @@ pub settled-there : (held : Inventory) (parent : ℕ) (name : List ℕ) (behavio
 settled-there held parent name behaviour number is =
     let over = over-sibling behaviour (siblings_in parent held.items) name false number is in
     let live : is_some (live_at over.0.id held.items) ≡ true = sibling-live (λ (s : Sibling). equal_caseless s.name name) parent held.items over.0 over.1 in
-    there-is number held.items ∙ or-true (nat_eq number 1) (is_some (live_at number held.items)) (subst (λ n. is_some (live_at n held.items) ≡ true) over.2 live)
+    there-is number held.items ∙ or_right (nat_eq number 1) (is_some (live_at number held.items)) (subst (λ n. is_some (live_at n held.items) ≡ true) over.2 live)
 
 -- no folder goes over another item
 pub folder-over : (held : Inventory) (parent : ℕ) (name : List ℕ) (behaviour : Conflict) (number : ℕ) → settled_in held parent name behaviour true ≡ Over number → ⊥

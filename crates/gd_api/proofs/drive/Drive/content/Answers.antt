@@ -17,10 +17,10 @@ returns c = record {
       let target = target_of before c.args.at.now in
       let fault = at_target (file_refusal before) target in
       read-handled c.args.self.now log (Content c.args.at.now) c.args.self.now.size fault c.content.result c.make_reply.result c.make_reply.ensures stands refl refl refl
-      (given-answers fault (about (content_reply before) target) c.content.result (c.content.ensures (state_of log).effects (inside-stands c.args.self.now _ log c.self.view_is stands)));
+      (given-answers fault (about (content_reply before) target) c.content.result (c.content.ensures.answer (state_of log).effects (inside-stands c.args.self.now _ log c.self.view_is stands)));
   served = λ log stands.
       let before = held (state_of log) in
       let target = target_of before c.args.at.now in
       read-served c.args.self.now log (Content c.args.at.now) c.args.self.now.size (at_target (file_refusal before) target) c.content.result (about (content_reply before) target) c.make_reply.result
-      c.make_reply.ensures stands refl refl (c.content.ensures (state_of log).effects (inside-stands c.args.self.now _ log c.self.view_is stands));
+      c.make_reply.ensures stands refl refl (c.content.ensures.answer (state_of log).effects (inside-stands c.args.self.now _ log c.self.view_is stands));
 }

@@ -1,5 +1,5 @@
 use Rattle.std.proofs.Common.{sym, ◌∙◌}
-use Rattle.gd_store.proofs.Allowed.{may-make, not-refused}
+use Rattle.gd_laws.proofs.Allowed.{may-make, not-refused}
 use Rattle.gd_store.proofs.There.{folder-over}
 use Rattle.gd_store.proofs.store.Store.name_of_folder.Goals as goal
 

@@ -1,5 +1,5 @@
 use Rattle.std.proofs.Common.{sym}
-use Rattle.gd_store.proofs.Allowed.{may-put, room-for-one, next-number, kept-fits, not-refused}
+use Rattle.gd_laws.proofs.Allowed.{may-put, room-for-one, next-number, kept-fits, not-refused}
 use Rattle.gd_store.proofs.store.Store.put_under.Goals as goal
 
 pub add_file-requires-clause-room : goal.add_file-requires-clause-room
