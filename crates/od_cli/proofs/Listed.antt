@@ -23,7 +23,7 @@ use Rattle.gd_store.specs.Stands as store
 use Rattle.gd_names.proofs.Each.{each, each-both}
 use Rattle.gd_names.proofs.Small.{not-root}
 use Rattle.gd_names.proofs.Ordered.{all-in-order-from}
-use Rattle.gd_store.proofs.Climbs.{node_at-live}
+use Rattle.gd_laws.proofs.Found.{node-of-live}
 use Rattle.gd_store.proofs.Given.{given-ok}
 use Rattle.gd_laws.specs.Placed.{placed_items}
 use Rattle.od_mirror.specs.Pulled.{paths_of, with_records}
@@ -112,7 +112,7 @@ never-deleted held item listed is =
 -- it is no folder, and has a version
 pub no-refusal : (held : Inventory) (number : ℕ) → IsFileAt held number → file_refusal held number ≡ None
 no-refusal held number file =
-    let at : node_at number (nodes_of held) ≡ Some (live_node file.live) = node_at-live number held.items ∙ ap (option_map live_node) file.there in
+    let at : node_at number (nodes_of held) ≡ Some (live_node file.live) = node-of-live number held.items ∙ ap (option_map live_node) file.there in
     ap (λ (node : Option Node). first_cause ((not (nat_eq number 1 || is_some node), NotFound) ∷ (nat_eq number 1 || is_some_folder node, NotFile) ∷ [])) at
     ∙ ap (λ b. first_cause ((not (b || true), NotFound) ∷ (b || is_none file.live.bytes, NotFile) ∷ [])) (not-root number file.above)
     ∙ ap (λ (bytes : Option (List ℕ)). cond (is_none bytes) (Some NotFile) None) file.bytes_are
