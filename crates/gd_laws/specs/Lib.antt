@@ -1,1 +1,3 @@
 pub mod EveryDrive
+pub mod Placed
+pub mod Served
