@@ -31,7 +31,6 @@ pub mod Running
 pub mod SyncsSaid
 pub mod Uncounted
 pub mod Placing
-pub mod Contents
 pub mod SameTrees
 pub mod HadThen
 pub mod LooksFound
