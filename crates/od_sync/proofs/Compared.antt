@@ -9,15 +9,11 @@ use Rattle.gd_item.specs.Records.{digest_record, kind_at, record_of}
 use Rattle.gd_item.specs.declared.digest.Digest.{Digest}
 use Rattle.gd_item.specs.declared.item.Item.{Item}
 use Rattle.gd_item.specs.declared.live.LiveItem.{LiveItem}
+use Rattle.od_tree.proofs.Contents.{IsAmong}
 use Rattle.od_tree.proofs.Paths.{path-self, same-path, text-self}
 use Rattle.od_sync.specs.Comparing.{is_same, is_same_entry, is_same_node, node_of, scanned}
 use Rattle.od_sync.specs.declared.scanning.Node.{Node}
 use Rattle.od_sync.specs.declared.scanning.Node.TheVariants.{Folder, File}
-
--- the bytes, if there are any, are among these
-abbrev pub IsAmong : List (List ℕ) → Option (List ℕ) → Type 0
-IsAmong known None = Unit {0}
-IsAmong known (Some bytes) = Contains known bytes
 
 -- those of one digest are the same
 abbrev pub AreApart : List (List ℕ) → Type 0

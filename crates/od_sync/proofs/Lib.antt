@@ -24,7 +24,6 @@ pub mod Rounding
 pub mod Running
 pub mod SyncsSaid
 pub mod Uncounted
-pub mod Contents
 pub mod SameTrees
 pub mod HadThen
 pub mod LooksFound

@@ -14,7 +14,7 @@ use Rattle.gd_item.proofs.LogsVersions.{IsKnown}
 use Rattle.gd_item.specs.Views.{uncounted_kind, uncounted}
 use Rattle.od_mirror.specs.Pulled.{paths_of}
 use Rattle.od_sync.specs.Comparing.{IsKindAccepted}
-use Rattle.od_sync.proofs.Contents.{items-known}
+use Rattle.gd_laws.proofs.Placing.{items-known}
 use Rattle.od_mirror.proofs.Placing.{each-at-path}
 
 -- ---- whatever the numbers of children

@@ -18,7 +18,7 @@ use Rattle.od_tree.specs.declared.step.LocalStep.{LocalStep}
 use Rattle.od_sync.specs.Comparing.{is_same, scanned}
 use Rattle.od_sync.specs.declared.scanning.Node.{Node}
 use Rattle.od_sync.proofs.Compared.{bytes_of, same-scanned, same-trees, same-entries}
-use Rattle.od_sync.proofs.Contents.{folder-among, drive-among, apart-before}
+use Rattle.od_tree.proofs.Contents.{folder-among, drive-among, apart-before}
 use Rattle.od_sync.proofs.Uncounted.{same-uncounted}
 
 pub same-as-drive : (local more : List LocalStep) (drive later : List Step) (items : List Item) → map uncounted items ≡ map uncounted (records_of (held_by drive))

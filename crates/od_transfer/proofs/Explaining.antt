@@ -1,10 +1,10 @@
 -- The requests of a job that were heard explain its outcome, also where the log grows before and after them.
 use Rattle.std.proofs.Common.{◌≡◌, ◌⊎◌, inl, inr, ℕ, ◌+◌, ◌<◌, ◌≤◌, Bool, true, false, cond, length, take, get_or, List, [], ◌∷◌, ◌++◌, Option, Some, Ok, Err, Result, refl, ap, sym, ◌∙◌, subst, append_assoc}
 use Rattle.std.specs.List.{AllZip, Contains}
-use Rattle.std.specs.Result.{IfOk}
+use Rattle.std.specs.Result.{IfOk, IsErr}
 use Rattle.std.proofs.lemmas.List.{append-nil, take_all}
 use Rattle.std.proofs.lemmas.List.Elements.{Contains-get_or}
-use Rattle.std.proofs.lemmas.Result.{IfOk-weaker}
+use Rattle.std.proofs.lemmas.Result.{IfOk-from_err, IfOk-weaker}
 use Rattle.gd_item.specs.Records.{digest_record}
 use Rattle.gd_item.specs.declared.digest.Digest.{Digest}
 use Rattle.gd_item.specs.declared.fault.ErrorCode.{ErrorCode}
@@ -18,7 +18,7 @@ use Rattle.gd_item.specs.declared.step.Step.{Step}
 use Rattle.gd_item.specs.declared.step.Step.TheVariants.{Ask}
 use Rattle.gd_item.specs.declared.step.Who.TheVariants.{Own}
 use Rattle.od_transfer.specs.Asking.{OwnAre, Answers, Heard, StandsLast, AsksAgain, IsSentAs, IsUnheard, Tries}
-use Rattle.od_transfer.specs.Explained.{WasHeard, Brought, DeniedThen, IsFetchExplained, IsExplained, IsOfFetch, IsOfJob, IsOfJobs, IsSendOf, GrownSo, GrowsSo, IsDownloadExplained}
+use Rattle.od_transfer.specs.Explained.{AreExplained, WasHeard, Brought, DeniedThen, IsFetchExplained, IsExplained, IsOfFetch, IsOfJob, IsOfJobs, IsSendOf, GrownSo, GrowsSo, IsDownloadExplained}
 use Rattle.od_transfer.specs.Fits.{is_digest, fetched, content_in, found_in, downloaded}
 use Rattle.od_transfer.specs.declared.job.Job.{Job}
 use Rattle.od_transfer.specs.declared.job.Job.TheVariants.{Fetch}
@@ -267,9 +267,15 @@ jobs-longer jobs old part more sent served heard asked =
 
 -- ---- job after job
 module _ (jobs items : List Job) (same : items ≡ jobs) where
-  pub none-carried : (log : Option (List Step)) → GrowsSo (IsOfJobs jobs) (λ old part. AllZip (IsExplained old part) (take 0 items) []) log log
-  none-carried log =
-      record { told = λ old told. record { part = []; such = tt; grown = told ∙ ap (λ steps. Some steps) (sym (append-nil old)); holds = tt } }
+  pub none-carried : (outcomes : List Outcome) (log : Option (List Step)) → outcomes ≡ [] → GrowsSo (IsOfJobs jobs) (λ old part. AllZip (IsExplained old part) (take 0 items) outcomes) log log
+  none-carried outcomes log none = record {
+    told = λ old told. record {
+      part = [];
+      such = tt;
+      grown = told ∙ ap (λ steps. Some steps) (sym (append-nil old));
+      holds = subst (λ (all : List Outcome). AllZip (IsExplained old []) [] all) (sym none) tt;
+    };
+  }
 
   then-carried : (P Q R : List Step → List Step → Type 0) (i : ℕ) (d : Job) {before middle after : Option (List Step)} → i < length items
       → ((old first second : List Step) → P old first → Q (old ++ first) second → R old (first ++ second))
@@ -297,9 +303,10 @@ module _ (jobs items : List Job) (same : items ≡ jobs) where
       first second
 
   -- the last job ended for want of memory, or its outcome found no room
-  pub cut-carried : (P Q : List Step → List Step → Type 0) (i : ℕ) (d : Job) {before middle after : Option (List Step)} → i < length items
-      → GrowsSo (IsOfJobs jobs) P before middle → GrowsSo (IsOfJob (get_or items i d)) Q middle after → GrowsSo (IsOfJobs jobs) (λ old part. Unit {0}) before after
-  cut-carried P Q i d within first second = then-carried P Q (λ old part. Unit {0}) i d within (λ old part more holds more_holds. tt) first second
+  pub cut-carried : (P Q : List Step → List Step → Type 0) {E : Type 0} (result : Result (List Outcome) E) (i : ℕ) (d : Job) {before middle after : Option (List Step)} → IsErr result → i < length items
+      → GrowsSo (IsOfJobs jobs) P before middle → GrowsSo (IsOfJob (get_or items i d)) Q middle after → GrowsSo (IsOfJobs jobs) (AreExplained jobs result) before after
+  cut-carried P Q result i d err within first second =
+      then-carried P Q (AreExplained jobs result) i d within (λ old part more holds more_holds. IfOk-from_err result (λ outcomes. AllZip (IsExplained old (part ++ more)) jobs outcomes) err) first second
 
   pub all-carried : (outcomes : List Outcome) (n : ℕ) {before after : Option (List Step)} → length items ≤ n → GrowsSo (IsOfJobs jobs) (λ old part. AllZip (IsExplained old part) (take n items) outcomes) before after
       → GrowsSo (IsOfJobs jobs) (λ old part. AllZip (IsExplained old part) jobs outcomes) before after

@@ -29,7 +29,10 @@ such-append A steps more first second = each-append (IsSuch A) steps more first 
 own-append : (steps more : List Step) → own_requests (steps ++ more) ≡ own_requests steps + own_requests more
 own-append steps more = sum_by-append (λ (step : Step). cond (is_own_request step) 1 0) steps more
 
-own-cons : (step : Step) (steps : List Step) → own_requests (step ∷ steps) ≡ cond (is_own_request step) 1 0 + own_requests steps
+abbrev one_if : Bool → ℕ
+one_if b = cond b 1 0
+
+own-cons : (step : Step) (steps : List Step) → own_requests (step ∷ steps) ≡ one_if (is_own_request step) + own_requests steps
 own-cons step steps = sum_by-cons (λ (step : Step). cond (is_own_request step) 1 0) step steps
 
 not-own : (step : Step) → IsSuch Never step → is_own_request step ≡ false
@@ -41,7 +44,7 @@ others-none : (steps : List Step) → ByOthers steps → own_requests steps ≡ 
 others-none [] by = refl
 others-none (step ∷ steps) by =
     let rest = others-none steps by.1 in
-    let here : cond (is_own_request step) 1 0 ≡ 0 = ap (λ b. cond b 1 0) (not-own step by.0) in
+    let here : one_if (is_own_request step) ≡ 0 = ap one_if (not-own step by.0) in
     omega (arith, own-cons step steps, rest, here)
 
 -- ---- sends that are not heard
@@ -60,6 +63,9 @@ tries-then n request first second one more = record {
   few = omega (arith, own-append first second, one.few, more.few);
 }
 
+pub tries-more : (most more : ℕ) (request : Request) (steps : List Step) → most ≤ more → Tries most request steps → Tries more request steps
+tries-more most more request steps fewer tries = record { such = tries.such; few = omega (arith, tries.few, fewer) }
+
 -- ---- the first time that a request is sent
 pub heard-first : (request : Request) (reply : Reply) (old : List Step) (after : Option (List Step)) → Heard ByOthers request old after reply → Heard (Tries 0 request) request old after reply
 heard-first request reply old after h =
@@ -68,8 +74,7 @@ heard-first request reply old after h =
 unheard-in : (request : Request) (old others : List Step) (after : Option (List Step)) → ByOthers others
     → (after ≡ Some (old ++ others)) ⊎ StandsLast request false (old ++ others) after → Tried 1 request old after
 unheard-in request old others after by (inl not_there) =
-    let none = tries-none request others by in
-    record { part = others; tries = record { such = none.such; few = omega (arith, none.few) }; grown = not_there }
+    record { part = others; tries = tries-more 0 1 request others (omega arith) (tries-none request others by); grown = not_there }
 unheard-in request old others after by (inr there) = record {
   part = others ++ Ask Own there.sent there.served false ∷ [];
   tries = tries-one request others there.sent there.served by (there.sent_as, refl);

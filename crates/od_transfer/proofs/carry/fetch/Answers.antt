@@ -23,7 +23,7 @@ returns-in-Ok-found_in-clause-undisturbed g c =
     undisturbed_then (g.R.Remote.undisturbed c.args.remote.now) (g.R.Remote.undisturbed c.send_thrice.new.remote) (g.R.Remote.undisturbed c.download.new.remote) (g.R.Remote.log c.args.remote.now) (g.R.Remote.log c.send_thrice.new.remote) (g.R.Remote.log c.download.new.remote) c.in-Ok.ensures.undisturbed c.download.ensures.undisturbed
 
 pub returns-in-Ok-found_in-clause-goes : goal.returns-in-Ok-found_in-clause-goes
-returns-in-Ok-found_in-clause-goes g c = g.R.Remote.goes_trans c.args.remote.now c.send_thrice.new.remote c.download.new.remote c.in-Ok.ensures.goes c.download.ensures.goes
+returns-in-Ok-found_in-clause-goes g c = g.met.R.Remote.goes_trans c.args.remote.now c.send_thrice.new.remote c.download.new.remote c.in-Ok.ensures.goes c.download.ensures.goes
 
 pub returns-in-Err-Failed-clause-no_faults : goal.returns-in-Err-Failed-clause-no_faults
 returns-in-Err-Failed-clause-no_faults g c = λ quiet. c.in-Err-Failed.ensures.no_faults quiet (transfer-served (Content (Id c.args.id)) (g.R.Remote.log c.args.remote.now) refl)
