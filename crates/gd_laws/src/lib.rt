@@ -18,6 +18,6 @@ pub use removal_laws::{a_removal_takes_all_below, removals_go_up};
 pub use reply_laws::{an_answer_is_of_its_kind, changes_are_answered};
 pub use token_laws::{
     a_given_token_is_served, a_last_page_has_all_that_changed, a_page_has_what_changed,
-    a_served_token_stays,
+    a_served_token_has_a_page, a_served_token_stays,
 };
 pub use version_laws::{an_accepted_version_is_given, no_version_is_forgotten};
