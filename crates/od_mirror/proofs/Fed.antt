@@ -155,7 +155,7 @@ module _ (R : Item → Item → Type 0) (f : Item → Item) (held : Inventory) (
         let numbered : stone.number ≡ n = number-is (deleted_record stone) n (ap (λ (x : ℕ × Item). (shown x).id.0) (sym is) ∙ at) in
         let above : 1 < stone.number = gone.above in
         both-at (now n before) None (record_at n held) None (given ∙ ap (λ (x : ℕ × Item). standing (shown x).kind before (shown x)) is ∙ shows.gone before stone)
-        (other-now n None (λ one. absurd (omega (arith, one, numbered, above))) (ap (λ m. live_at m held.items) (sym numbered) ∙ gone.unlisted)) tt
+        (other-now n None (λ one. absurd (omega (arith, one, numbered, above))) (ap (λ m. live_at m held.items) (sym numbered) ∙ gone.gone)) tt
 
     is-entry : (e : ℕ × Item) → now n before ≡ standing (shown e).kind before (shown e) → (shown e).id.0 ≡ n → IsEntry held position start e → Both R (now n before) (record_at n held)
     is-entry e given at (inl root) = is-root e given at root.1
