@@ -1,4 +1,4 @@
-ghost use Rattle.std.specs.Prelude.{◌≡◌, ℕ, Bool, true, List, Option, IfOk};
+ghost use Rattle.std.specs.Prelude.{◌≡◌, ℕ, ◌≤◌, Bool, true, List, Option, IfOk};
 
 use gd_item::{Reply, Request};
 use std::alloc::Global;
@@ -35,7 +35,7 @@ pub trait Remote {
     /// changes since a token that is served, and those of fetches, have a reply.
     ghost undisturbed: { Self → Bool };
 
-    /// That one goes on to the other by calls. What that means is the instance's.
+    /// That one goes on to the other by calls. What more that means is the instance's.
     ghost goes: { Self → Self → Type 0 };
 
     /// Sends one request. After want of memory it may have come to the drive, and its reply may have been lost here.
@@ -50,4 +50,6 @@ pub trait Remote {
     ghost goes_refl: { (x : Self) → goes x x };
 
     ghost goes_trans: { (x y z : Self) → goes x y → goes y z → goes x z };
+
+    ghost goes_later: { (x y : Self) → goes x y → (faults x ≤ faults y) × (answers x ≤ answers y) };
 }

@@ -1,6 +1,7 @@
 -- How a folder in memory goes on by calls. Each is counted, as a failure too where it is listed; the edits that are tied to it
 -- are made, and then its operation is done, unless it is listed or refused. What is armed stays as it was.
-use Rattle.std.specs.Prelude.{◌≡◌, ◌⊎◌, ℕ, Bool, false, cond, List, [], ◌∷◌, ◌++◌, take, slice_index, slice_set}
+use Rattle.std.proofs.Common.{◌≡◌, ◌⊎◌, inl, inr, ℕ, ◌≤◌, Bool, false, cond, List, [], ◌∷◌, ◌++◌, take, ap, arith}
+use Rattle.std.specs.Prelude.{slice_index, slice_set}
 use Rattle.gd_names.specs.Counts.{one_more}
 use Rattle.od_tree.specs.Tied.{kind_of, call_of, is_listed, with_tied}
 use Rattle.od_tree.specs.declared.call.TreeCall.{TreeCall}
@@ -30,6 +31,7 @@ pub record FirstMade (edits : List (TreeCall × ℕ × UserEdit)) (kind number :
 pub record Begun (kind : ℕ) (before after : MemoryTree) : Type 0 where
   pub counted : after.calls ≡ slice_set before.calls kind (next_call kind before)
   pub failures : after.faults ≡ failed_by (fails_next kind before) before.faults
+  pub later : before.faults ≤ after.faults
   pub edits : after.edits ≡ before.edits
   pub failing : after.failing ≡ before.failing
   pub first : FirstMade before.edits kind (next_call kind before) before.folder after.folder
@@ -51,10 +53,20 @@ pub data GoesOn (start : MemoryTree) : MemoryTree → Type 0 where
   Stays : GoesOn start start
   Then : (middle after : MemoryTree) → GoesOn start middle → Called middle after → GoesOn start after
 
--- no call is a way to go on, and one way after another is one
+-- no call is a way to go on, one way after another is one, and on none the count of failures falls
 pub goes_none : (x : MemoryTree) → GoesOn x x
 goes_none x = Stays
 
 pub goes_then : (x y z : MemoryTree) → GoesOn x y → GoesOn y z → GoesOn x z
 goes_then x y _ first Stays = first
 goes_then x y _ first (Then middle after more call) = Then middle after (goes_then x y middle first more) call
+
+called-later : (before after : MemoryTree) → Called before after → before.faults ≤ after.faults
+called-later before after (call, inl begun) = begun.later
+called-later before after (call, inr worked) =
+    let same : after.faults ≡ worked.ready.faults = ap (λ (tree : MemoryTree). tree.faults) worked.done in
+    omega (arith, worked.begun.later, same)
+
+pub goes_later : (x y : MemoryTree) → GoesOn x y → x.faults ≤ y.faults
+goes_later x _ Stays = omega arith
+goes_later x _ (Then middle after first call) = omega (arith, goes_later x middle first, called-later middle after call)

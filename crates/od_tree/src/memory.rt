@@ -179,7 +179,7 @@ fn make_due(folder: &mut Folder, due: bool, edit: &UserEdit) -> Result<(), NoMem
 }
 
 impl Tree for MemoryTree {
-    ghost use Rattle.od_tree.specs.GoingOn.{GoesOn, goes_none, goes_then};
+    ghost use Rattle.od_tree.specs.GoingOn.{GoesOn, goes_none, goes_then, goes_later};
     ghost use Rattle.od_tree.specs.Memory.{log_of, faults_of, is_undisturbed};
 
     ghost log = { λ t. log_of t };
@@ -193,6 +193,8 @@ impl Tree for MemoryTree {
     ghost goes_refl = { goes_none };
 
     ghost goes_trans = { goes_then };
+
+    ghost goes_later = { goes_later };
 
     fn list(&mut self, alloc: Global, at: &Path) -> Result<List<Entry>, TreeFault> {
         self.begin(TreeCall::List)?;

@@ -1,4 +1,4 @@
-ghost use Rattle.std.specs.Prelude.{◌≡◌, ℕ, ◌<◌, Bool, List, length, Option, Some};
+ghost use Rattle.std.specs.Prelude.{◌≡◌, ℕ, ◌<◌, ◌≤◌, Bool, List, length, Option, Some};
 
 use crate::entry::Entry;
 use crate::fault::TreeFault;
@@ -23,7 +23,7 @@ pub trait Tree {
     /// Whether the user leaves the folder alone from now on, and no call fails.
     ghost undisturbed: { Self → Bool };
 
-    /// That one goes on to the other by calls. What that means is the instance's.
+    /// That one goes on to the other by calls. What more that means is the instance's.
     ghost goes: { Self → Self → Type 0 };
 
     /// The entries of a folder in order of name.
@@ -60,4 +60,6 @@ pub trait Tree {
     ghost goes_refl: { (x : Self) → goes x x };
 
     ghost goes_trans: { (x y z : Self) → goes x y → goes y z → goes x z };
+
+    ghost goes_later: { (x y : Self) → goes x y → faults x ≤ faults y };
 }

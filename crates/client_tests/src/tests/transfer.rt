@@ -47,7 +47,8 @@ impl OneFile {
 }
 
 impl Remote for OneFile {
-    ghost use Rattle.std.specs.Prelude.{None, false};
+    ghost use Rattle.std.proofs.Common.{le_refl, le_trans};
+    ghost use Rattle.std.specs.Prelude.{◌≤◌, None, false};
 
     ghost log = { λ r. None };
 
@@ -59,11 +60,13 @@ impl Remote for OneFile {
 
     ghost undisturbed = { λ r. false };
 
-    ghost goes = { λ x y. Unit {0} };
+    ghost goes = { λ x y. (x.faults ≤ y.faults) × (x.answers ≤ y.answers) };
 
-    ghost goes_refl = { λ x. tt };
+    ghost goes_refl = { λ x. (le_refl x.faults, le_refl x.answers) };
 
-    ghost goes_trans = { λ x y z first more. tt };
+    ghost goes_trans = { λ x y z first more. (le_trans first.0 more.0, le_trans first.1 more.1) };
+
+    ghost goes_later = { λ x y goes. goes };
 
     fn ask(&mut self, _alloc: Global, request: &Request) -> Result<Reply, AskFault> {
         if self.lost > 0 {
