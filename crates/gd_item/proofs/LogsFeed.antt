@@ -11,12 +11,12 @@ use Rattle.std.proofs.lemmas.Bool.{eqb-true, ltb-true, ltb-false, lt-ltb, ne_eqb
 use Rattle.std.proofs.lemmas.List.{take-append-drop}
 use Rattle.std.proofs.lemmas.List.Elements.{All-nil, All-cons, All-head, All-tail, All-weaker, All-append, filter-append}
 use Rattle.std.proofs.lemmas.List.Kept.{AllPairs-cons}
+use Rattle.gd_names.proofs.Each.{AllPairs-nil, AllPairs-head, AllPairs-tail}
 use Rattle.gd_item.specs.Inventory.{Inventory}
 use Rattle.gd_item.specs.Records.{record_of, root_record, deleted_record, in_change_order_from, root_change, live_changes, removals, feed, last_of}
 use Rattle.gd_item.specs.declared.item.Item.{Item}
 use Rattle.gd_item.specs.declared.live.LiveItem.{LiveItem}
 use Rattle.gd_item.specs.declared.live.Tombstone.{Tombstone}
-use Rattle.gd_item.proofs.Pairs.{AllPairs-nil, AllPairs-head, AllPairs-tail}
 
 abbrev pub IsBefore : ℕ × Item → ℕ × Item → Type 0
 IsBefore x y = x.0 < y.0

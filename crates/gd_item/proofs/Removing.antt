@@ -12,9 +12,9 @@ use Rattle.gd_item.specs.Moves.{is_parent_such, is_node_such, is_in_within, is_i
 use Rattle.gd_item.specs.Nodes.{Node, live_node, node_at, is_some_folder, is_twin, path_of}
 use Rattle.gd_item.specs.Sound.{IsWithin, IsItemMap}
 use Rattle.gd_item.specs.Trees.{nodes_of}
+use Rattle.gd_names.proofs.Each.{AllPairs-head, AllPairs-tail}
 use Rattle.gd_item.proofs.Adding.{some-from}
 use Rattle.gd_item.proofs.Effects.{inventory-append, number-positive}
-use Rattle.gd_item.proofs.Pairs.{AllPairs-head, AllPairs-tail}
 use Rattle.gd_item.proofs.Reaching.{IsChild, Climbs, climb-of-path, reached}
 
 -- the items without that of a number

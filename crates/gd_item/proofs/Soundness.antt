@@ -13,9 +13,10 @@ use Rattle.gd_item.specs.Nodes.{Node, live_node, node_at, is_folder, is_some_fol
 use Rattle.gd_item.specs.Refusals.{is_there, siblings_in}
 use Rattle.gd_item.specs.Sound.{IsWithin, IsItemMap}
 use Rattle.gd_item.specs.Trees.{nodes_of}
+use Rattle.gd_names.proofs.Each.{AllPairs-nil}
 use Rattle.gd_item.proofs.Adding.{IsLed, led-push, has_name_in, apart}
 use Rattle.gd_item.proofs.Effects.{inventory-snoc, next-inventory, number-positive}
-use Rattle.gd_item.proofs.Pairs.{AllPairs-nil, AllPairs-same_map, AllPairs-changed, All-changed}
+use Rattle.gd_item.proofs.Pairs.{AllPairs-same_map, AllPairs-changed, All-changed}
 
 pub sound-new : IsItemMap new_drive
 sound-new = record {

@@ -1,26 +1,10 @@
 -- A tree has an entry at each of its paths: None for a folder, and the bytes of a file. It is written as the list
 -- of its entries in order of path, so two trees are the same exactly where the lists are equal.
 use Rattle.std.specs.Prelude.{ℕ, List, [], ◌∷◌, map, Option, Some, None}
-use Rattle.std.specs.declared.cmp.Ordering.{Ordering}
-use Rattle.std.specs.Ordering.{nat_cmp}
-use Rattle.std.specs.Cmp.Lexicographic.{slice_cmp}
-use Rattle.std.specs.BTreeMap.{insert_entry}
+use Rattle.gd_names.specs.Ordered.{in_order}
 use Rattle.gd_item.specs.declared.live.LiveItem.{LiveItem}
 use Rattle.gd_item.specs.Inventory.{Inventory}
 use Rattle.gd_item.specs.Nodes.{Node, live_node, path_of}
-
--- paths are ordered by their lists of names, and names by their bytes
-abbrev pub path_cmp : List (List ℕ) → List (List ℕ) → Ordering
-path_cmp a b = slice_cmp (slice_cmp nat_cmp) a b
-
--- entries in order of path, those of the second list put among those of the first
-abbrev pub in_order_from : {X : Type 0} → List (List (List ℕ) × X) → List (List (List ℕ) × X) → List (List (List ℕ) × X)
-in_order_from placed [] = placed
-in_order_from placed (entry ∷ entries) = in_order_from (insert_entry path_cmp placed entry.0 entry.1) entries
-
--- the entries in order of path
-abbrev pub in_order : {X : Type 0} → List (List (List ℕ) × X) → List (List (List ℕ) × X)
-in_order entries = in_order_from [] entries
 
 -- a thing at its path, if it has one, before the others
 abbrev pub at_path : {X : Type 0} → Option (List (List ℕ)) → X → List (List (List ℕ) × X) → List (List (List ℕ) × X)

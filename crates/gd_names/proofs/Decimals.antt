@@ -1,5 +1,5 @@
 -- Bytes against the decimal digits of a number.
-use Rattle.std.proofs.Common.{◌≡◌, ℕ, ◌^◌, ◌<◌, ◌≤◌, true, false, List, [], ◌∷◌, length, get_or, nat_eq, Result, Ok, Err, sym, refl, ap, ◌∙◌, subst, arith}
+use Rattle.std.proofs.Common.{◌≡◌, ℕ, ◌^◌, ◌<◌, ◌≤◌, true, false, List, [], ◌∷◌, ◌++◌, length, get_or, nat_eq, Option, Some, None, IfSome, MatchOption, Result, Ok, Err, sym, refl, ap, ◌∙◌, subst, arith}
 use Rattle.std.specs.Char.{to_ascii_lowercase, is_ascii_digit}
 use Rattle.std.specs.Cmp.{both_ways}
 use Rattle.std.specs.Cmp.Lexicographic.{bytes_decides}
@@ -8,14 +8,16 @@ use Rattle.std.specs.Str.{IsUtf8, all_ascii_digits}
 use Rattle.std.specs.Str.Parse.{ParsesUnsigned, AllDigits, digits_value}
 use Rattle.std.proofs.lemmas.Bool.{false_from_ne_true, and_parts, eqb-true, eq-eqb, leb-true, le-leb, and_from, both_ways as both}
 use Rattle.std.proofs.lemmas.Bool.Decides.{nat_tests}
-use Rattle.std.proofs.lemmas.Fmt.{digits_decimal, decimal_injective, decimal-digits_value, first_decimal, decimal_nonempty, IsAscii-decimal, parse-decimal}
+use Rattle.std.proofs.lemmas.Fmt.{digits_decimal, decimal_injective, decimal-digits_value, first_decimal, decimal_nonempty, decimal_digit, IsAscii-decimal, parse-decimal}
 use Rattle.std.proofs.lemmas.Result.{OkIff-at_ok}
 use Rattle.std.proofs.lemmas.Str.{IsUtf8-from_ascii}
 use Rattle.std.proofs.lemmas.Str.Parse.{IsNumeralModel, numerals_by_value, tells_all_ascii_digits, tells_digits, digit_at, parse_plain}
 use Rattle.gd_names.specs.Caseless.{lower_case, equal_caseless}
 use Rattle.gd_names.specs.Escapes.{is_between}
+use Rattle.gd_names.specs.Numbered.{IsNumberBetween}
 
-own : IsNumeralModel (λ ds. all_ascii_digits ds ≡ true) (digits_value 10)
+-- the digits of a number, and the number that they write
+pub own : IsNumeralModel (λ ds. all_ascii_digits ds ≡ true) (digits_value 10)
 own = numerals_by_value (λ ds. all_ascii_digits ds ≡ true) tells_all_ascii_digits
 
 -- a digit has no case
@@ -71,16 +73,48 @@ module _ {E : Type 0} (xs text : List ℕ) (result : Result ℕ E) (is_text : te
       let reads : result ≡ Ok n = parse-decimal 32 n text result small fits (is_text ∙ e) parses in
       cc)
 
-  pub read : (m : ℕ) → result ≡ Ok m → is_between 49 57 (get_or xs 0 0) ≡ true → (n : ℕ) → n < 2 ^ 32 → equal_caseless xs (decimal n) ≡ nat_eq n m
-  read m reads begun n small =
-      let fits : n < 2 ^ 64 = omega arith in
-      let parts = and_parts _ _ begun in
-      let low : 49 ≤ get_or text 0 0 = subst (λ (ds : List ℕ). 49 ≤ get_or ds 0 0) (sym is_text) (leb-true 49 (get_or xs 0 0) parts.0) in
-      let plain = parse_plain own 32 text result parses (λ plus. subst (λ (c : ℕ). 49 ≤ c → ⊥) (sym plus) (λ h. omega arith) low) in
-      let is = OkIff-at_ok result ((all_ascii_digits text ≡ true) × (0 < length text) × (digits_value 10 text < 2 ^ 32)) (digits_value 10 text) m plain reads in
-      let written : decimal (digits_value 10 text) ≡ text = decimal-digits_value own text is.0.0 is.0.1 (λ zero. absurd (omega arith)) (omega arith) in
-      let same : decimal m ≡ xs = ap decimal is.1 ∙ written ∙ is_text in
-      let small_m : m < 2 ^ 64 = omega arith in
-      both_ways (equal_caseless xs (decimal n)) (nat_eq n m)
-      (λ equal. eq-eqb n m (decimal_injective n m fits small_m (sym (equal_decimal xs n fits equal) ∙ sym same)))
-      (λ equal. (bytes_decides (lower_case xs) (lower_case (decimal n))).1 (ap lower_case (sym same ∙ ap decimal (sym (eqb-true n m equal)))))
+  module _ (m : ℕ) (reads : result ≡ Ok m) (begun : is_between 49 57 (get_or xs 0 0) ≡ true) where
+    first : 49 ≤ get_or xs 0 0
+    first = leb-true 49 (get_or xs 0 0) (and_parts _ _ begun).0
+
+    is-number : ((all_ascii_digits text ≡ true) × (0 < length text) × (digits_value 10 text < 2 ^ 32)) × (m ≡ digits_value 10 text)
+    is-number =
+        let low : 49 ≤ get_or text 0 0 = subst (λ (ds : List ℕ). 49 ≤ get_or ds 0 0) (sym is_text) first in
+        let plain = parse_plain own 32 text result parses (λ plus. subst (λ (c : ℕ). 49 ≤ c → ⊥) (sym plus) (λ h. omega arith) low) in
+        OkIff-at_ok result ((all_ascii_digits text ≡ true) × (0 < length text) × (digits_value 10 text < 2 ^ 32)) (digits_value 10 text) m plain reads
+
+    small-number : m < 2 ^ 32
+    small-number = let is = is-number in omega (arith, is.0.2, is.1)
+
+    written : decimal m ≡ xs
+    written =
+        let is = is-number in
+        let low : 49 ≤ get_or text 0 0 = subst (λ (ds : List ℕ). 49 ≤ get_or ds 0 0) (sym is_text) first in
+        ap decimal is.1 ∙ decimal-digits_value own text is.0.0 is.0.1 (λ zero. absurd (omega arith)) (omega arith) ∙ is_text
+
+    pub read : (n : ℕ) → n < 2 ^ 32 → equal_caseless xs (decimal n) ≡ nat_eq n m
+    read n small =
+        let fits : n < 2 ^ 64 = omega arith in
+        let small_m = small-number in
+        both_ways (equal_caseless xs (decimal n)) (nat_eq n m)
+        (λ equal. eq-eqb n m (decimal_injective n m fits (omega arith) (sym (equal_decimal xs n fits equal) ∙ sym written)))
+        (λ equal. (bytes_decides (lower_case xs) (lower_case (decimal n))).1 (ap lower_case (sym written ∙ ap decimal (sym (eqb-true n m equal)))))
+
+    pub read-range : (1 ≤ m) × (m < 2 ^ 32)
+    read-range =
+        let some : m ≡ 0 → ⊥ = λ none.
+        let zero : 48 ∷ [] ≡ xs = sym (decimal_digit 0 (omega arith)) ∙ ap decimal (sym none) ∙ written in
+        subst (λ (ds : List ℕ). 49 ≤ get_or ds 0 0 → ⊥) zero (λ h. omega arith) first in
+        (omega arith, small-number)
+
+-- a number between two ends that were stripped
+pub number-between : (text front end left digits : List ℕ) → ((rest : List ℕ) → equal_caseless text (rest ++ end) ≡ equal_caseless left rest) → ((rest : List ℕ) → equal_caseless left (front ++ rest) ≡ equal_caseless digits rest)
+    → (found : Option ℕ) → MatchOption found ((n : ℕ) → 1 ≤ n → n < 2 ^ 32 → equal_caseless digits (decimal n) ≡ false) (λ number. (n : ℕ) → 1 ≤ n → n < 2 ^ 32 → equal_caseless digits (decimal n) ≡ nat_eq n number)
+    → IfSome found (λ number. (1 ≤ number) × (number < 2 ^ 32)) → IfSome found (λ number. IsNumberBetween text front end number)
+number-between text front end left digits before behind None numbers range = tt
+number-between text front end left digits before behind (Some number) numbers range =
+    record {
+      from_one = range.0;
+      fits = range.1;
+      is = before (front ++ decimal number) ∙ (behind (decimal number) ∙ (numbers number range.0 range.1 ∙ eq-eqb number number refl));
+    }

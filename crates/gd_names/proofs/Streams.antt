@@ -1,7 +1,7 @@
--- What a read from the source in memory does to the bytes that are left.
-use Rattle.std.proofs.Common.{◌≡◌, ℕ, ◌+◌, ◌-◌, ◌<◌, min, List, ◌++◌, length, take, drop, Some, Ok, refl, ap, ◌∙◌, arith, length-take, length-drop, length-append}
+-- What a read from the source in memory does to the bytes that are left, and counts that have risen.
+use Rattle.std.proofs.Common.{◌≡◌, ℕ, ◌+◌, ◌-◌, ◌<◌, ◌≤◌, min, List, ◌++◌, length, take, drop, Some, Ok, refl, ap, ◌∙◌, arith, length-take, length-drop, length-append}
 use Rattle.std.proofs.lemmas.List.{take_rest, take_at, take-append-drop, drop-drop, nil_from_length}
-use Rattle.gd_names.specs.Streams.{Reads}
+use Rattle.gd_names.specs.Streams.{Reads, Rose}
 
 -- the next bytes, as many as a piece and the room allow
 pub reads_piece : (bytes slice room filled : List ℕ) (at count piece fits : ℕ) → slice ≡ bytes → fits ≡ min (length (take (length slice - at) (drop at slice))) piece
@@ -22,3 +22,10 @@ reads_piece bytes slice room filled at count piece fits same is_fits is_count so
           rest ∙ nil_from_length (drop at bytes) empty;
       err = tt;
     }
+
+-- a count that has risen has risen since before and until later
+pub rose-later : (a b c : ℕ) → a ≤ b → Rose b c → Rose a c
+rose-later a b c later rose = omega (arith, later, rose)
+
+pub rose-on : (a b c : ℕ) → Rose a b → b ≤ c → Rose a c
+rose-on a b c rose later = omega (arith, rose, later)

@@ -1,10 +1,13 @@
 pub mod Caseless
 pub mod Causes
 pub mod Copies
+pub mod Counts
 pub mod Escapes
+pub mod GoingOn
 pub mod Memory
 pub mod Names
 pub mod Numbered
+pub mod Ordered
 pub mod Paths
 pub mod Settling
 pub mod Streams

@@ -1,7 +1,8 @@
 -- Names made from another name by a number before its extension. The extension of a file begins at its last dot
 -- that is not its first byte; a folder has none.
-use Rattle.std.specs.Prelude.{◌≡◌, ℕ, ◌-◌, ◌<◌, ◌≤◌, Bool, true, false, if◌then◌else◌, List, [], ◌∷◌, ◌++◌, length, take, codes, nat_eq, slice_index_or, Option, Some, None, unwrap_or}
+use Rattle.std.specs.Prelude.{◌≡◌, ℕ, ◌-◌, ◌^◌, ◌<◌, ◌≤◌, Bool, true, false, if◌then◌else◌, List, [], ◌∷◌, ◌++◌, length, take, codes, nat_eq, slice_index_or, Option, Some, None, unwrap_or}
 use Rattle.std.specs.Fmt.{decimal}
+use Rattle.gd_names.specs.Caseless.{equal_caseless}
 
 -- what follows the last dot, with the dot, if there is one; `found` is that of the later bytes
 abbrev pub dot_before : ℕ → List ℕ → Option (List ℕ) → Option (List ℕ)
@@ -28,6 +29,12 @@ stem name folder = take (length name - length (extension name folder)) name
 -- the name with a blank and a number before its extension
 abbrev pub numbered : List ℕ → Bool → ℕ → List ℕ
 numbered name folder n = stem name folder ++ codes " " ++ decimal n ++ extension name folder
+
+-- the text is a number from 1 between the two ends, but for case
+pub record IsNumberBetween (text front end : List ℕ) (number : ℕ) : Type 0 where
+  pub from_one : 1 ≤ number
+  pub fits : number < 2 ^ 32
+  pub is : equal_caseless text (front ++ decimal number ++ end) ≡ true
 
 -- the number is the least from 1 at which the list is false
 pub record IsLeastFree (marked : List Bool) (number : ℕ) : Type 0 where

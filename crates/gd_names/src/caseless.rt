@@ -1,4 +1,4 @@
-ghost use Rattle.std.specs.Prelude.{◌≡◌, ℕ, List, ◌++◌, false, MatchOption};
+ghost use Rattle.std.specs.Prelude.{◌≡◌, ℕ, ◌-◌, List, ◌++◌, false, length, take, drop, IfSome, MatchOption};
 ghost use Rattle.gd_names.specs.Caseless.{equal_caseless};
 
 use crate::text::Text;
@@ -12,9 +12,10 @@ pub fn same_caseless(a: &Text, b: &Text) -> bool
 
 /// What follows the front in a text that begins with it, but for case. Takes no memory.
 pub fn strip_caseless_front<'a>(text: &'a [u8], front: &[u8]) -> Option<&'a [u8]>
-    ensures { MatchOption result
+    ensures rest { MatchOption result
         ((rest : List ℕ) → equal_caseless text.now (front.now ++ rest) ≡ false)
         (λ left. (rest : List ℕ) → equal_caseless text.now (front.now ++ rest) ≡ equal_caseless left.now rest) }
+    ensures left { IfSome result (λ left. left.now ≡ drop (length front.now) text.now) }
 {
     if text.len() < front.len() {
         return None;
@@ -29,9 +30,10 @@ pub fn strip_caseless_front<'a>(text: &'a [u8], front: &[u8]) -> Option<&'a [u8]
 
 /// What stands before the end in a text that ends with it, but for case. Takes no memory.
 pub fn strip_caseless_end<'a>(text: &'a [u8], end: &[u8]) -> Option<&'a [u8]>
-    ensures { MatchOption result
+    ensures rest { MatchOption result
         ((rest : List ℕ) → equal_caseless text.now (rest ++ end.now) ≡ false)
         (λ left. (rest : List ℕ) → equal_caseless text.now (rest ++ end.now) ≡ equal_caseless left.now rest) }
+    ensures left { IfSome result (λ left. left.now ≡ take (length text.now - length end.now) text.now) }
 {
     if text.len() < end.len() {
         return None;

@@ -1,8 +1,8 @@
-ghost use Rattle.std.specs.Prelude.{◌≡◌, ℕ, ◌^◌, ◌<◌, ◌≤◌, true, false, ◌++◌, length, drop, nat_eq, slice_index, slice_index_or, IfOk, MatchOption};
+ghost use Rattle.std.specs.Prelude.{◌≡◌, ℕ, ◌^◌, ◌<◌, ◌≤◌, true, false, ◌++◌, length, drop, nat_eq, slice_index, slice_index_or, IfOk, IfSome, MatchOption};
 ghost use Rattle.std.specs.Fmt.{decimal};
 ghost use Rattle.gd_names.specs.Escapes.{is_between};
 ghost use Rattle.gd_names.specs.Caseless.{equal_caseless};
-ghost use Rattle.gd_names.specs.Numbered.{stem, extension, file_extension, numbered, IsLeastFree};
+ghost use Rattle.gd_names.specs.Numbered.{stem, extension, file_extension, numbered, IsLeastFree, IsNumberBetween};
 
 use crate::caseless::{strip_caseless_end, strip_caseless_front};
 use crate::memory::NoMemory;
@@ -77,9 +77,10 @@ pub fn numbered_name(
 
 /// The number from 1 that stands between the two ends of the text, as `{}` writes it. The ends are told without case.
 pub fn number_between(text: &[u8], front: &[u8], end: &[u8]) -> Option<u32>
-    ensures { MatchOption result
+    ensures numbers { MatchOption result
         ((n : ℕ) → 1 ≤ n → n < 2 ^ 32 → equal_caseless text.now (front.now ++ decimal n ++ end.now) ≡ false)
         (λ number. (n : ℕ) → 1 ≤ n → n < 2 ^ 32 → equal_caseless text.now (front.now ++ decimal n ++ end.now) ≡ nat_eq n number) }
+    ensures some { IfSome result (λ number. IsNumberBetween text.now front.now end.now number) }
 {
     let left = strip_caseless_end(text, end)?;
     let digits = strip_caseless_front(left, front)?;
@@ -87,9 +88,10 @@ pub fn number_between(text: &[u8], front: &[u8], end: &[u8]) -> Option<u32>
 }
 
 fn number_of(digits: &[u8]) -> Option<u32>
-    ensures { MatchOption result
+    ensures numbers { MatchOption result
         ((n : ℕ) → 1 ≤ n → n < 2 ^ 32 → equal_caseless digits.now (decimal n) ≡ false)
         (λ number. (n : ℕ) → 1 ≤ n → n < 2 ^ 32 → equal_caseless digits.now (decimal n) ≡ nat_eq n number) }
+    ensures range { IfSome result (λ number. (1 ≤ number) × (number < 2 ^ 32)) }
 {
     let text = match str::from_utf8(digits) {
         Ok(text) => text,

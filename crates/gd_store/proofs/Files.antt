@@ -4,10 +4,10 @@ use Rattle.std.specs.List.{All, AllPairs, find}
 use Rattle.std.proofs.lemmas.Bool.Decides.{nat_tests}
 use Rattle.std.proofs.lemmas.List.Elements.{All-head, All-tail}
 use Rattle.gd_names.specs.declared.conflict.Sibling.{Sibling}
+use Rattle.gd_names.proofs.Each.{AllPairs-head, AllPairs-tail}
 use Rattle.gd_item.specs.declared.live.LiveItem.{LiveItem}
 use Rattle.gd_item.specs.Nodes.{Node, live_node, node_at, is_some_folder, is_folder}
 use Rattle.gd_item.specs.Refusals.{sibling_of, siblings_in}
-use Rattle.gd_item.proofs.Pairs.{AllPairs-head, AllPairs-tail}
 
 differs : (a b : ℕ) → a < b → nat_eq a b ≡ false
 differs a b lt = grind (arith, nat_tests)

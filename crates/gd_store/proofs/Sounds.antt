@@ -7,7 +7,6 @@ use Rattle.gd_names.specs.declared.conflict.Conflict.{Conflict}
 use Rattle.gd_names.specs.declared.conflict.Sibling.{Sibling}
 use Rattle.gd_names.specs.declared.conflict.Settle.{Settle}
 use Rattle.gd_names.specs.declared.conflict.Settle.TheVariants.{Free, Over, Refuse}
-use Rattle.gd_conflict.proofs.Free.{settled-free, over-sibling}
 use Rattle.gd_item.specs.Inventory.{Inventory, Effect, after, after_all, PutOver, Moved, Removed, live_at}
 use Rattle.gd_item.specs.Moves.{new_parent, new_name, is_bad_name, is_in, is_taken_by_other, is_any_too_long, patch_refusal, patch_effect, remove_refusal, removal_order, remove_effects}
 use Rattle.gd_item.specs.Nodes.{is_folder, path_of}
@@ -18,6 +17,7 @@ use Rattle.gd_item.specs.declared.condition.Condition.{Condition}
 use Rattle.gd_item.specs.declared.fault.StoreFault.{StoreFault}
 use Rattle.gd_item.specs.declared.live.LiveItem.{LiveItem}
 use Rattle.gd_item.specs.declared.fault.StoreFault.TheVariants.{NotFound, NotFolder, NotFile, Root, BadName, Modified, IntoItself, NameTaken, PathTooLong, Quota}
+use Rattle.gd_names.proofs.Settled.{settled-free, over-sibling}
 use Rattle.gd_item.proofs.Effects.{next-inventory, number-positive}
 use Rattle.gd_item.proofs.Moving.{sound-moved}
 use Rattle.gd_item.proofs.Removing.{sound-removed-all}

@@ -5,12 +5,13 @@ use Rattle.std.specs.Map.{values_of}
 use Rattle.std.specs.Option.{option_map}
 use Rattle.std.proofs.lemmas.Bool.Decides.{nat_tests}
 use Rattle.gd_names.specs.Causes.{first_cause}
+use Rattle.gd_names.specs.Ordered.{in_order}
 use Rattle.gd_item.specs.Inventory.{Inventory, Effect, inventory, live_at}
 use Rattle.gd_item.specs.Nodes.{Node, live_node, node_at, path_of, is_some_folder}
 use Rattle.gd_item.specs.Records.{kind_at, record_of, records_of}
 use Rattle.gd_item.specs.Refusals.{file_refusal, missing}
 use Rattle.gd_item.specs.Sound.{IsItemMap, IsWithin}
-use Rattle.gd_item.specs.Trees.{at_path, in_order, nodes_of, placed}
+use Rattle.gd_item.specs.Trees.{at_path, nodes_of, placed}
 use Rattle.gd_item.specs.Versions.{version_at, content_at, content_of, item_version, file_version, replaced_bytes}
 use Rattle.gd_item.specs.declared.digest.Digest.{Digest}
 use Rattle.gd_item.specs.declared.fault.StoreFault.{StoreFault}
@@ -19,13 +20,13 @@ use Rattle.gd_item.specs.declared.item.Item.{Item}
 use Rattle.gd_item.specs.declared.item.Kind.TheVariants.{File}
 use Rattle.gd_item.specs.declared.live.LiveItem.{LiveItem}
 use Rattle.gd_store.specs.Stands as store
+use Rattle.gd_names.proofs.Each.{each, each-both}
+use Rattle.gd_names.proofs.Ordered.{all-in-order-from}
 use Rattle.gd_store.proofs.Climbs.{node_at-live}
 use Rattle.od_mirror.specs.Drive.{placed_items}
 use Rattle.od_mirror.specs.Pulled.{paths_of, with_records}
 use Rattle.od_mirror.proofs.Mapped.{mapped}
-use Rattle.od_mirror.proofs.Pairs.{each, each-both}
 use Rattle.od_mirror.proofs.Standing.{paths-of-placed}
-use Rattle.od_sync.proofs.InOrder.{all-in-order-from}
 use Rattle.od_cli.specs.Pulled.{whole_items, AreListed, IsFileAt, IsListed}
 use Rattle.od_cli.proofs.Pulls.{records-are, sound-of}
 use Rattle.od_cli.proofs.Shown.{own}

@@ -2,9 +2,10 @@
 use Rattle.std.proofs.Common.{◌≡◌, ℕ, ◌+◌, List, [], ◌∷◌, ◌++◌, codes, length, Option, Some, None, refl, sym, ap, ◌∙◌, append_assoc}
 use Rattle.std.specs.Fmt.{decimal}
 use Rattle.std.specs.List.{flat_map}
+use Rattle.gd_names.specs.Ordered.{in_order}
 use Rattle.gd_item.specs.Inventory.{Inventory, Effect, inventory}
 use Rattle.gd_item.specs.Records.{record_of, size_of, kind_at}
-use Rattle.gd_item.specs.Trees.{tree_of, in_order}
+use Rattle.gd_item.specs.Trees.{tree_of}
 use Rattle.gd_item.specs.declared.item.Item.{Item}
 use Rattle.gd_item.specs.declared.live.LiveItem.{LiveItem}
 use Rattle.gd_item.proofs.Effects.{number-inventory}

@@ -4,24 +4,24 @@ use Rattle.std.specs.Fmt.{decimal}
 use Rattle.std.specs.List.{AllByRecursion, AllPairs, flat_map}
 use Rattle.std.specs.Map.{values_of}
 use Rattle.std.proofs.lemmas.Bool.Decides.{nat_tests}
+use Rattle.gd_names.specs.Ordered.{in_order}
 use Rattle.gd_item.specs.Inventory.{Inventory, Effect, inventory, live_at}
 use Rattle.gd_item.specs.Nodes.{Node, path_of}
 use Rattle.gd_item.specs.Records.{record_of, kind_at}
 use Rattle.gd_item.specs.Sound.{IsItemMap}
 use Rattle.gd_item.specs.Steps.{state_of}
-use Rattle.gd_item.specs.Trees.{tree_of, in_order, placed, at_path, nodes_of}
+use Rattle.gd_item.specs.Trees.{tree_of, placed, at_path, nodes_of}
 use Rattle.gd_item.specs.Versions.{content_of, item_version, file_version, replaced_bytes}
 use Rattle.gd_item.specs.declared.item.Item.{Item}
 use Rattle.gd_item.specs.declared.live.LiveItem.{LiveItem}
 use Rattle.gd_item.specs.declared.step.Step.{Step}
+use Rattle.gd_names.proofs.Each.{AllPairs-tail, each-later, each-both}
 use Rattle.gd_item.proofs.Effects.{number-inventory}
-use Rattle.gd_item.proofs.Pairs.{AllPairs-tail}
 use Rattle.gd_store.specs.Stands as store
 use Rattle.gd_item.specs.Records.{records_of}
 use Rattle.od_mirror.specs.Drive.{placed_items}
 use Rattle.od_mirror.specs.Pulled.{paths_of, with_records}
 use Rattle.od_mirror.proofs.Mapped.{mapped, in-order-mapped}
-use Rattle.od_mirror.proofs.Pairs.{each-later, each-both}
 use Rattle.od_mirror.proofs.Standing.{paths-of-placed, tree-of-placed}
 use Rattle.od_cli.specs.Played.{content_line, drive_text}
 use Rattle.od_cli.specs.Plays.{Plays}

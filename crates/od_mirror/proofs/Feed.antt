@@ -11,9 +11,8 @@ use Rattle.gd_item.specs.Sound.{IsItemMap, IsWithin}
 use Rattle.gd_item.specs.declared.item.Item.{Item}
 use Rattle.gd_item.specs.declared.live.LiveItem.{LiveItem}
 use Rattle.od_mirror.specs.Pulled.{with_kind, with_record, with_records}
+use Rattle.gd_names.proofs.Each.{AllPairs-tail, each, each-later, each-so, each-both, each-append, each-always}
 use Rattle.od_mirror.proofs.Inserted.{put, put-less, put-greater, put-commutes, put-last, all-put}
-use Rattle.gd_item.proofs.Pairs.{AllPairs-tail}
-use Rattle.od_mirror.proofs.Pairs.{each, each-later, each-so, each-both, each-append, each-always}
 
 -- two records may change places
 abbrev pub Swaps : Item → Item → Type 0

@@ -4,7 +4,6 @@ pub mod Inserted
 pub mod Keyed
 pub mod Mapped
 pub mod Misfits
-pub mod Pairs
 pub mod Placing
 pub mod Rising
 pub mod Rooted

@@ -4,7 +4,7 @@ use Rattle.std.specs.BTreeMap.{insert_entry}
 use Rattle.std.specs.Ordering.{match_ordering}
 use Rattle.std.specs.declared.cmp.Ordering.{Ordering}
 use Rattle.std.specs.declared.cmp.Ordering.TheVariants.{Less, Equal, Greater}
-use Rattle.gd_item.specs.Trees.{path_cmp, in_order_from, in_order}
+use Rattle.gd_names.specs.Ordered.{path_cmp, in_order_from, in_order}
 
 module _ {X Y : Type 0} (f : X → Y) where
   abbrev pub mapped : List (List (List ℕ) × X) → List (List (List ℕ) × Y)

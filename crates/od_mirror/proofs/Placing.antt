@@ -1,7 +1,8 @@
 -- Items are placed one after another.
 use Rattle.std.proofs.Common.{◌≡◌, ℕ, List, [], ◌∷◌, Option, Some, None, refl}
+use Rattle.gd_names.specs.Ordered.{in_order_from}
 use Rattle.gd_item.specs.Nodes.{Node, path_of}
-use Rattle.gd_item.specs.Trees.{in_order_from, at_path, placed}
+use Rattle.gd_item.specs.Trees.{at_path, placed}
 
 in-order-at : {X : Type 0} (path : Option (List (List ℕ))) (x : X) (entries more : List (List (List ℕ) × X))
     → in_order_from entries (at_path path x more) ≡ in_order_from (in_order_from entries (at_path path x [])) more

@@ -2,19 +2,19 @@
 use Rattle.std.proofs.Common.{◌≡◌, ℕ, ◌<◌, Bool, true, false, not, ◌&&◌, ◌||◌, cond, List, [], ◌∷◌, filter, map, is_some, is_none, nat_eq, nat_lt, Option, Some, None, refl, ap, ◌∙◌, arith}
 use Rattle.std.proofs.lemmas.Bool.Decides.{nat_tests}
 use Rattle.std.specs.List.{AllPairs, AllByRecursion, list_any}
+use Rattle.gd_names.specs.Ordered.{in_order}
 use Rattle.gd_item.specs.Inventory.{Inventory}
 use Rattle.gd_item.specs.Nodes.{Node, item_node, live_node, is_folder_kind, node_at, path_of, is_twin, has_twin}
 use Rattle.gd_item.specs.Records.{record_of, kind_at}
 use Rattle.gd_item.specs.Sound.{IsItemMap, IsWithin}
-use Rattle.gd_item.specs.Trees.{in_order, at_path, placed, nodes_of, tree_of}
+use Rattle.gd_item.specs.Trees.{at_path, placed, nodes_of, tree_of}
 use Rattle.gd_item.specs.declared.item.Item.{Item}
 use Rattle.gd_item.specs.declared.live.LiveItem.{LiveItem}
 use Rattle.gd_item.specs.Records.{records_of}
 use Rattle.od_mirror.specs.Drive.{placed_items}
 use Rattle.od_mirror.specs.Pulled.{nodes, is_misplaced, is_bad, AllFit, paths_of}
+use Rattle.gd_names.proofs.Each.{AllPairs-tail, each, each-later, each-so, each-both}
 use Rattle.od_mirror.proofs.Mapped.{mapped, in-order-mapped}
-use Rattle.gd_item.proofs.Pairs.{AllPairs-tail}
-use Rattle.od_mirror.proofs.Pairs.{each, each-later, each-so, each-both}
 use Rattle.od_mirror.proofs.Rooted.{root_node, path-with-root, root-has-none, root-is-none, no-later-twin}
 
 -- ---- the records as nodes

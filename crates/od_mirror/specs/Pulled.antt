@@ -4,8 +4,9 @@ use Rattle.std.specs.Prelude.{◌≡◌, ℕ, ◌<◌, Bool, true, false, not, �
 use Rattle.std.specs.Ordering.{nat_cmp}
 use Rattle.std.specs.BTreeMap.{insert_entry, is_at}
 use Rattle.std.specs.Map.{remove_entry}
+use Rattle.gd_names.specs.Ordered.{in_order}
 use Rattle.gd_item.specs.Nodes.{Node, item_node, node_at, is_some_folder, path_of, has_twin}
-use Rattle.gd_item.specs.Trees.{in_order, placed}
+use Rattle.gd_item.specs.Trees.{placed}
 use Rattle.gd_item.specs.declared.item.Item.{Item}
 use Rattle.gd_item.specs.declared.item.Kind.{Kind}
 use Rattle.gd_item.specs.declared.item.Kind.TheVariants.{Folder, File, Deleted}

@@ -1,10 +1,10 @@
 // What a mirror makes of a drive's feed.
 ghost use Rattle.std.specs.Prelude.{◌≡◌, ℕ, [], map};
 ghost use Rattle.std.specs.Map.{values_of};
+ghost use Rattle.gd_names.specs.Ordered.{in_order};
 ghost use Rattle.gd_item.specs.Inventory.{Inventory};
 ghost use Rattle.gd_item.specs.Records.{feed, removals, record_of};
 ghost use Rattle.gd_item.specs.Sound.{IsItemMap};
-ghost use Rattle.gd_item.specs.Trees.{in_order};
 ghost use Rattle.gd_item.specs.Records.{records_of};
 ghost use Rattle.od_mirror.specs.Drive.{placed_items};
 ghost use Rattle.od_mirror.specs.Pulled.{with_records, nodes, AllFit, paths_of};

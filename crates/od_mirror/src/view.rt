@@ -1,5 +1,5 @@
 ghost use Rattle.std.specs.Prelude.{◌≡◌, [], ◌∷◌, filter, not, nat_eq, IfOk, OnOk};
-ghost use Rattle.gd_item.specs.Trees.{in_order_from};
+ghost use Rattle.gd_names.specs.Ordered.{in_order_from};
 ghost use Rattle.gd_item.specs.Trees as trees;
 ghost use Rattle.od_mirror.specs.Pulled.{paths_of, nodes};
 

@@ -17,6 +17,7 @@ use Rattle.od_keeper.specs.declared.image.Agreed.TheVariants as agreed
 use Rattle.od_keeper.specs.declared.image.BaseRow.{BaseRow}
 use Rattle.od_keeper.specs.declared.image.Change.{Change}
 use Rattle.od_keeper.specs.declared.image.Image.{Image}
+use Rattle.gd_names.proofs.Each.{each-append, each-first, each-second}
 use Rattle.od_keeper.proofs.Growing.{sound-stays}
 use Rattle.od_transfer.specs.Alone.{AreOwnServed, is_own_served}
 use Rattle.od_transfer.specs.Asking.{Grows, IsSuch, OwnAre}
@@ -31,7 +32,6 @@ use Rattle.od_tree.specs.declared.step.LocalStep.{LocalStep}
 use Rattle.od_sync.specs.Batches.{BringsFiles, CommitsRows, FetchesFiles, Fetches, Stops, change_of_rows}
 use Rattle.od_sync.specs.Doing.{AreAcceptedFetches, AreRowsOf, CanPlace, IsBroughtTo, IsBytes, IsFetchFit, IsFetchOf, IsFileOf, IsMaking, IsPathOf, Makes, NoFolder, PlacesAll, file_spot, job_of, placed_row}
 use Rattle.od_sync.specs.declared.planning.Fetching.{Fetching}
-use Rattle.od_sync.proofs.EachStep.{each-both, each-first, each-second}
 use Rattle.od_sync.proofs.ImagesAfter.{rows_sound}
 use Rattle.od_sync.proofs.LastImages.{last_added}
 use Rattle.od_sync.proofs.Made.{makes-so, makes-steps, makes-then}
@@ -271,10 +271,10 @@ fetches-then image done mid batch next f g h drive_before drive_mid drive_after 
       let two = second.told (drive ++ one.more) (local ++ one.part) (images ++ one.added) one.drive_grown one.local_grown one.images_grown one.last in
       record {
         more = one.more ++ two.more;
-        transfers = each-both (IsSuch IsTransfer) one.more two.more one.transfers two.transfers;
+        transfers = each-append (IsSuch IsTransfer) one.more two.more one.transfers two.transfers;
         drive_grown = two.drive_grown ∙ ap (λ those. Some those) (append_assoc drive one.more two.more);
         part = one.part ++ two.part;
-        makes = each-both IsMaking one.part two.part one.makes two.makes;
+        makes = each-append IsMaking one.part two.part one.makes two.makes;
         local_grown = two.local_grown ∙ ap (λ those. Some those) (append_assoc local one.part two.part);
         added = one.added ++ two.added;
         images_grown = two.images_grown ∙ ap (λ those. Some those) (append_assoc images one.added two.added);
@@ -386,10 +386,10 @@ stops-then image whole done left mid faults_before faults_now drive_before drive
       let two = second.told (drive ++ one.more) (local ++ one.part) (images ++ one.added) one.drive_grown one.local_grown one.images_grown one.last in
       record {
         more = one.more ++ two.more;
-        transfers = each-both (IsSuch IsTransfer) one.more two.more one.transfers two.transfers;
+        transfers = each-append (IsSuch IsTransfer) one.more two.more one.transfers two.transfers;
         drive_grown = two.drive_grown ∙ ap (λ those. Some those) (append_assoc drive one.more two.more);
         part = one.part ++ two.part;
-        makes = each-both IsMaking one.part two.part one.makes two.makes;
+        makes = each-append IsMaking one.part two.part one.makes two.makes;
         local_grown = two.local_grown ∙ ap (λ those. Some those) (append_assoc local one.part two.part);
         added = one.added ++ two.added;
         images_grown = two.images_grown ∙ ap (λ those. Some those) (append_assoc images one.added two.added);

@@ -7,12 +7,12 @@ use Rattle.std.specs.Ordering.{nat_cmp, ordering_then}
 use Rattle.std.specs.declared.cmp.Ordering.{Ordering}
 use Rattle.std.specs.declared.cmp.Ordering.TheVariants.{Less, Equal, Greater}
 use Rattle.std.proofs.lemmas.Cmp.{tied_itself}
+use Rattle.gd_names.specs.Ordered.{path_cmp}
 use Rattle.gd_item.specs.Places.{last_name}
-use Rattle.gd_item.specs.Trees.{path_cmp}
 use Rattle.od_tree.specs.Local.{is_path, is_from}
 use Rattle.od_tree.specs.Listing.{is_right_below}
+use Rattle.gd_names.proofs.Ordered.{Path, Above, Rises, In, kept, all-in, rises-kept, paths-total}
 use Rattle.od_sync.proofs.Compared.{both, same-path, text-self}
-use Rattle.od_sync.proofs.InOrder.{Path, Above, Rises, In, kept, all-in, rises-kept, paths-total}
 
 abbrev pub is_below : Path → Path → Bool
 is_below top path = is_from top path && not (is_path top path)

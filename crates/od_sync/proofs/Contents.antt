@@ -3,15 +3,17 @@ use Rattle.std.proofs.Common.{◌≡◌, ℕ, List, [], ◌∷◌, ◌++◌, map
 use Rattle.std.proofs.lemmas.List.{get_or-map, length-map}
 use Rattle.std.proofs.lemmas.List.Elements.{Contains-append_right}
 use Rattle.std.specs.List.{AllByRecursion, Contains, flat_map}
+use Rattle.gd_names.specs.Ordered.{in_order}
 use Rattle.gd_item.specs.Steps.{state_of, held_by, accepted_by}
-use Rattle.gd_item.specs.Trees.{in_order, nodes_of}
+use Rattle.gd_item.specs.Trees.{nodes_of}
 use Rattle.gd_item.specs.declared.live.LiveItem.{LiveItem}
 use Rattle.gd_item.specs.declared.live.Version.{Version}
 use Rattle.gd_item.specs.declared.step.Step.{Step}
+use Rattle.gd_names.proofs.Each.{each, each-so}
+use Rattle.gd_names.proofs.Ordered.{all-in-order-from}
 use Rattle.gd_item.proofs.LogsGrow.{accepted-log}
 use Rattle.gd_item.proofs.LogsVersions.{IsKnown, known-inventory}
 use Rattle.od_mirror.specs.Drive.{placed_items}
-use Rattle.od_mirror.proofs.Pairs.{each, each-so}
 use Rattle.od_tree.specs.Collisions.{placed_by, contents, NoCollision}
 use Rattle.od_tree.specs.Local.{bytes_in, local_of, local_tree}
 use Rattle.od_tree.specs.Loss.{writes}
@@ -21,7 +23,6 @@ use Rattle.od_tree.specs.declared.local.Spot.{Spot}
 use Rattle.od_tree.specs.declared.step.LocalStep.{LocalStep}
 use Rattle.od_tree.proofs.Contained.{contents_known, more_contents}
 use Rattle.od_sync.proofs.Compared.{IsAmong}
-use Rattle.od_sync.proofs.InOrder.{all-in-order-from}
 use Rattle.od_sync.proofs.Placing.{Each, each-in-order}
 
 -- ---- in the folder

@@ -11,6 +11,7 @@ use Rattle.od_keeper.specs.Sound.{IsAccepted, IsSound}
 use Rattle.od_keeper.specs.declared.image.Agreed.TheVariants as agreed
 use Rattle.od_keeper.specs.declared.image.Image.{Image}
 use Rattle.od_transfer.specs.Fits.{IsTransfer, is_transfer}
+use Rattle.gd_names.proofs.Each.{each-so, each-append, each-first, each-second}
 use Rattle.od_transfer.proofs.Logs.{such-also}
 use Rattle.od_tree.specs.Local.{local_of}
 use Rattle.od_tree.specs.Undisturbed.{IsOp}
@@ -24,7 +25,6 @@ use Rattle.od_sync.specs.Syncing.{Does, Goes, IsSyncRequest, IsSyncStep}
 use Rattle.od_sync.specs.declared.planning.Fetching.{Fetching}
 use Rattle.od_sync.specs.declared.planning.Plan.{Plan}
 use Rattle.od_sync.proofs.Batched.{fetch-among}
-use Rattle.od_sync.proofs.EachStep.{each-also, each-both, each-first, each-second}
 use Rattle.od_sync.proofs.Made.{makes-so, makes-steps, makes-then}
 
 sync-step : (step : LocalStep) → IsMaking step → IsSyncStep step
@@ -42,7 +42,7 @@ sync-step (Op (op.Discard aside)) makes = makes
 sync-step (Op op.Asides) makes = makes
 
 sync-steps : (steps : List LocalStep) → AllByRecursion IsMaking steps → AllByRecursion IsSyncStep steps
-sync-steps steps makes = each-also IsMaking IsSyncStep sync-step steps makes
+sync-steps steps makes = each-so IsMaking IsSyncStep sync-step steps makes
 
 sync-request : (request : Request) (served heard : Bool) → IsTransfer request served heard → IsSyncRequest request served heard
 sync-request request served heard transfer = or_right (is_delta request) (is_transfer request) transfer
@@ -97,7 +97,7 @@ goes-plan {IsFolder} {IsFile} image fetches tried barred drive_before drive_afte
         asked = such-also IsTransfer IsSyncRequest sync-request stopped.more stopped.transfers;
         drive_grown = stopped.drive_grown;
         part = made.part ++ stopped.part;
-        steps = sync-steps (made.part ++ stopped.part) (each-both IsMaking made.part stopped.part (makes-steps IsFolder IsFile made.part made.makes) stopped.makes);
+        steps = sync-steps (made.part ++ stopped.part) (each-append IsMaking made.part stopped.part (makes-steps IsFolder IsFile made.part made.makes) stopped.makes);
         local_grown = stopped.local_grown ∙ ap (λ those. Some those) (append_assoc local made.part stopped.part);
         added = stopped.added;
         images_grown = stopped.images_grown;
@@ -122,7 +122,7 @@ does-plan {IsFolder} {IsFile} image plan tried barred next faults_before faults_
         transfers = done.transfers;
         drive_grown = done.drive_grown;
         part = made.part ++ done.part;
-        steps = sync-steps (made.part ++ done.part) (each-both IsMaking made.part done.part (makes-steps IsFolder IsFile made.part made.makes) done.makes);
+        steps = sync-steps (made.part ++ done.part) (each-append IsMaking made.part done.part (makes-steps IsFolder IsFile made.part made.makes) done.makes);
         local_grown = done.local_grown ∙ ap (λ those. Some those) (append_assoc local made.part done.part);
         added = done.added;
         images_grown = done.images_grown;

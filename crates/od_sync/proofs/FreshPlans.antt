@@ -1,20 +1,22 @@
 -- Where nothing stands in the folder and nothing was agreed on, the plan can be done and makes the drive's tree.
 use Rattle.std.proofs.Common.{◌≡◌, ◌<◌, ◌≤◌, false, List, [], ◌∷◌, length, map, refl, ap, sym, subst, ◌∙◌, arith}
 use Rattle.std.specs.List.{All, AllByRecursion}
+use Rattle.gd_names.specs.Ordered.{in_order}
 use Rattle.gd_item.specs.Inventory.{Inventory}
 use Rattle.gd_item.specs.Records.{record_of, records_of, size_of}
 use Rattle.gd_item.specs.Sound.{IsItemMap}
 use Rattle.gd_item.specs.Steps.{held_by}
-use Rattle.gd_item.specs.Trees.{in_order, nodes_of}
+use Rattle.gd_item.specs.Trees.{nodes_of}
 use Rattle.gd_item.specs.declared.item.Item.{Item}
 use Rattle.gd_item.specs.declared.live.LiveItem.{LiveItem}
 use Rattle.gd_item.specs.declared.step.Step.{Step}
+use Rattle.gd_names.proofs.Each.{each-so}
+use Rattle.gd_names.proofs.Ordered.{Path, Rises, rises-in-order-from}
 use Rattle.gd_store.proofs.Logs.{sound-log}
 use Rattle.od_keeper.specs.Sound.{uncounted}
 use Rattle.od_mirror.specs.Drive.{placed_items}
 use Rattle.od_mirror.specs.Pulled.{paths_of}
 use Rattle.od_mirror.proofs.Mapped.{mapped}
-use Rattle.od_mirror.proofs.Pairs.{each-so}
 use Rattle.od_mirror.proofs.Standing.{paths-of-placed, tree-of-placed}
 use Rattle.od_tree.specs.Local.{is_path}
 use Rattle.od_sync.specs.FreshPlans.{FreshPlan}
@@ -27,7 +29,6 @@ use Rattle.od_sync.proofs.FreshPlansKeys.{all-mapped}
 use Rattle.od_sync.proofs.FreshPlansPaths.{path-long}
 use Rattle.od_sync.proofs.FreshPlansSpots.{AreBelow, can-make, can-place}
 use Rattle.od_sync.proofs.FreshPlansTrees.{Entry, files, folders, tree-again}
-use Rattle.od_sync.proofs.InOrder.{Path, Rises, rises-in-order-from}
 
 not-root : (path : Path) → 0 < length path → is_path [] path ≡ false
 not-root [] long = absurd (omega (arith, long))

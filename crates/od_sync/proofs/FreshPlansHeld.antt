@@ -3,19 +3,19 @@ use Rattle.std.proofs.Common.{◌≡◌, ℕ, ◌<◌, ◌≤◌, ◌⊎◌, inl
 use Rattle.std.proofs.lemmas.Bool.{eq-eqb, eqb-true, or_cases}
 use Rattle.std.proofs.lemmas.Bool.Decides.{nat_tests}
 use Rattle.std.specs.List.{All, AllPairs, AllByRecursion}
+use Rattle.gd_names.specs.Ordered.{in_order}
 use Rattle.gd_item.specs.Inventory.{Inventory, live_at}
 use Rattle.gd_item.specs.Nodes.{Node, live_node, node_at, is_some_folder, path_of}
 use Rattle.gd_item.specs.Places.{names_above}
 use Rattle.gd_item.specs.Records.{size_of}
 use Rattle.gd_item.specs.Sound.{IsItemMap, IsWithin}
-use Rattle.gd_item.specs.Trees.{in_order, at_path, placed, nodes_of}
+use Rattle.gd_item.specs.Trees.{at_path, placed, nodes_of}
 use Rattle.gd_item.specs.declared.live.LiveItem.{LiveItem}
-use Rattle.gd_item.proofs.Pairs.{AllPairs-tail}
 use Rattle.od_mirror.specs.Drive.{placed_items}
+use Rattle.gd_names.proofs.Each.{AllPairs-tail, each, each-later, each-so, each-both}
+use Rattle.gd_names.proofs.Ordered.{Path, In, all-in, all-in-order-from}
 use Rattle.od_mirror.proofs.Climbing.{root-path}
 use Rattle.od_mirror.proofs.Mapped.{mapped}
-use Rattle.od_mirror.proofs.Pairs.{each, each-later, each-so, each-both}
-use Rattle.od_sync.proofs.InOrder.{Path, In, all-in, all-in-order-from}
 use Rattle.od_sync.proofs.FreshPlansKeys.{Key, key-in, key-in-order, key-later, in-mapped}
 use Rattle.od_sync.proofs.FreshPlansPaths.{StandsUnder, stands-under, one-number, siblings-apart}
 

@@ -10,8 +10,9 @@ use Rattle.gd_item.specs.declared.item.Kind.TheVariants as kind
 use Rattle.gd_item.specs.declared.live.LiveItem.{LiveItem}
 use Rattle.od_keeper.specs.Sound.{uncounted, uncounted_kind}
 use Rattle.od_mirror.specs.Pulled.{paths_of}
+use Rattle.gd_names.proofs.Each.{each-so}
+use Rattle.gd_names.proofs.Ordered.{Path}
 use Rattle.od_mirror.proofs.Mapped.{mapped}
-use Rattle.od_mirror.proofs.Pairs.{each-so}
 use Rattle.od_tree.specs.Local.{is_from}
 use Rattle.od_sync.specs.Doing.{IsFileOf}
 use Rattle.od_sync.specs.Planning.{fetches_of, file_in, folder_in, folders_of, is_new, is_wanted, planned_fetches, planned_folders}
@@ -19,7 +20,6 @@ use Rattle.od_sync.specs.declared.planning.Fetching.{Fetching}
 use Rattle.od_sync.proofs.Below.{from-self}
 use Rattle.od_sync.proofs.FreshPlansHeld.{IsAt, item_bytes}
 use Rattle.od_sync.proofs.FreshPlansTrees.{file_of, files, folder_of, folders}
-use Rattle.od_sync.proofs.InOrder.{Path}
 use Rattle.od_sync.proofs.Uncounted.{paths-uncounted}
 
 -- ---- the numbers of children do not count

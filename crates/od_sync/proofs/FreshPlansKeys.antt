@@ -5,9 +5,10 @@ use Rattle.std.specs.List.{AllByRecursion}
 use Rattle.std.specs.Ordering.{match_ordering}
 use Rattle.std.specs.declared.cmp.Ordering.{Ordering}
 use Rattle.std.specs.declared.cmp.Ordering.TheVariants.{Less, Equal, Greater}
-use Rattle.gd_item.specs.Trees.{path_cmp, in_order_from, at_path}
+use Rattle.gd_names.specs.Ordered.{path_cmp, in_order_from}
+use Rattle.gd_item.specs.Trees.{at_path}
+use Rattle.gd_names.proofs.Ordered.{Path, In, exact-paths}
 use Rattle.od_mirror.proofs.Mapped.{mapped}
-use Rattle.od_sync.proofs.InOrder.{Path, In, exact-paths}
 
 module _ {X : Type 0} where
   abbrev put : List (Path × X) → Path → X → List (Path × X)

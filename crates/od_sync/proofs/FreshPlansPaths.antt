@@ -10,13 +10,13 @@ use Rattle.gd_item.specs.Nodes.{Node, node_at, is_folder, below, below_parent, p
 use Rattle.gd_item.specs.Places.{names_above}
 use Rattle.gd_item.specs.Sound.{IsItemMap}
 use Rattle.gd_item.specs.Trees.{nodes_of}
+use Rattle.gd_names.proofs.Ordered.{Path}
 use Rattle.gd_item.proofs.Reaching.{IsChild, found-number, path-settled}
 use Rattle.od_mirror.specs.Pulled.{nodes, is_misplaced, is_bad, has_root}
 use Rattle.od_mirror.proofs.Climbing.{root-path, no-step-path}
 use Rattle.od_mirror.proofs.Rooted.{root_node}
 use Rattle.od_mirror.proofs.Standing.{nodes-of-records, records-fit}
 use Rattle.od_sync.proofs.Compared.{text-self}
-use Rattle.od_sync.proofs.InOrder.{Path}
 
 -- ---- one step up
 pub record IsUnder (nodes : List Node) (steps number : ℕ) (path : Path) : Type 0 where

@@ -5,18 +5,18 @@ use Rattle.std.specs.Cmp.Lexicographic.{nat_list_cmp_total}
 use Rattle.std.specs.List.{AllByRecursion, cons_option}
 use Rattle.std.specs.Ordering.{ordering_then}
 use Rattle.std.specs.declared.cmp.Ordering.TheVariants.{Less}
+use Rattle.gd_names.specs.Ordered.{path_cmp}
 use Rattle.gd_item.specs.Places.{names_above}
-use Rattle.gd_item.specs.Trees.{path_cmp}
 use Rattle.od_tree.specs.Local.{has_parent, is_folder_at, is_folder_spot, is_path, is_taken_at, spot_at, with_spot}
 use Rattle.od_tree.specs.declared.local.LocalFile.{LocalFile}
 use Rattle.od_tree.specs.declared.local.Spot.{Spot}
-use Rattle.od_mirror.proofs.Pairs.{each-append, each-both, each-so}
 use Rattle.od_sync.specs.Doing.{CanMake, CanPlace, CanStand, folder_spot, placed_file}
+use Rattle.gd_names.proofs.Each.{each-append, each-both, each-so}
+use Rattle.gd_names.proofs.Ordered.{Path, Above, Rises, In, all-in, paths-total}
 use Rattle.od_sync.proofs.Below.{path-self}
 use Rattle.od_sync.proofs.Compared.{same-path}
 use Rattle.od_sync.proofs.FreshPlansHeld.{IsLed}
 use Rattle.od_sync.proofs.FreshPlansTrees.{Entry, file_of, files, folder_of, folders}
-use Rattle.od_sync.proofs.InOrder.{Path, Above, Rises, In, all-in, paths-total}
 
 -- ---- paths
 not-self : (a b : Path) → path_cmp a b ≡ Less → a ≡ b → ⊥

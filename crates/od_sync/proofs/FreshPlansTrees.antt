@@ -5,12 +5,12 @@ use Rattle.std.specs.BTreeMap.{insert_entry}
 use Rattle.std.specs.List.{AllByRecursion, cons_option, filter_map}
 use Rattle.std.specs.Ordering.{match_ordering, ordering_reverse}
 use Rattle.std.specs.declared.cmp.Ordering.TheVariants.{Less, Greater}
-use Rattle.gd_item.specs.Trees.{path_cmp, in_order_from, in_order}
+use Rattle.gd_names.specs.Ordered.{path_cmp, in_order_from, in_order}
+use Rattle.gd_names.proofs.Each.{each-both, each-append, each-always}
+use Rattle.gd_names.proofs.Ordered.{Path, Above, Rises, paths-total}
 use Rattle.od_tree.specs.Local.{bytes_in, tree_of_spots}
 use Rattle.od_tree.specs.declared.local.Spot.{Spot}
-use Rattle.od_mirror.proofs.Pairs.{each-both, each-append, each-always}
 use Rattle.od_sync.specs.Doing.{file_spot, folder_spot}
-use Rattle.od_sync.proofs.InOrder.{Path, Above, Rises, paths-total}
 
 abbrev pub Entry : Type 0
 Entry = Path × Option (List ℕ)

@@ -9,11 +9,11 @@ use Rattle.gd_item.specs.declared.request.Request.TheVariants.{Delta}
 use Rattle.gd_item.specs.declared.step.Step.{Step}
 use Rattle.gd_item.specs.declared.step.Step.TheVariants.{Ask}
 use Rattle.gd_item.specs.declared.step.Who.TheVariants.{Own}
+use Rattle.gd_names.proofs.Each.{each, each-append, each-so}
 use Rattle.od_keeper.proofs.Growing.{sound-stays}
 use Rattle.od_keeper.specs.Keeping.{last_image}
 use Rattle.od_keeper.specs.Sound.{IsSound}
 use Rattle.od_keeper.specs.declared.image.Image.{Image}
-use Rattle.od_mirror.proofs.Pairs.{each, each-append, each-so}
 use Rattle.od_transfer.proofs.Logs.{such-also, such-append}
 use Rattle.od_transfer.specs.Asking.{OwnAre}
 use Rattle.od_transfer.specs.Fits.{IsTransfer, is_transfer}

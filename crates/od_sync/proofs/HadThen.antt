@@ -28,8 +28,8 @@ use Rattle.od_sync.specs.Syncs.{HadThen, IsFromDrive}
 use Rattle.od_sync.specs.declared.planning.Fetching.{Fetching}
 use Rattle.od_sync.specs.declared.scanning.Node.{Node}
 use Rattle.od_sync.specs.declared.scanning.Node.TheVariants.{Folder, File}
+use Rattle.gd_names.proofs.Each.{each-so}
 use Rattle.od_sync.proofs.Compared.{both, same-file, same-path}
-use Rattle.od_sync.proofs.EachStep.{each-also}
 use Rattle.od_sync.proofs.SameTrees.{drive-as-found}
 
 abbrev Entry : Type 0
@@ -143,7 +143,7 @@ planned-had drive spent token later items rows local remote part mirrors remote_
     let shown : All (IsEntryShown nodes) remote = remote-shown (drive ++ spent) items remote mirrors remote_is in
     let wanted : List Entry = filter (is_wanted rows local remote) remote in
     let new : List Entry = filter (is_new rows local) remote in
-    each-also (IsMakingOf (IsFolderOf (planned_folders rows local remote)) (IsFetchOf (planned_fetches rows local remote))) (IsFromDrive drive (spent ++ Ask Own (Delta token) true true ∷ later))
+    each-so (IsMakingOf (IsFolderOf (planned_folders rows local remote)) (IsFetchOf (planned_fetches rows local remote))) (IsFromDrive drive (spent ++ Ask Own (Delta token) true true ∷ later))
     (λ step made. step-had drive spent token later (planned_folders rows local remote) (planned_fetches rows local remote) step
     (folders-shown nodes wanted (All-filter (is_wanted rows local remote) (IsEntryShown nodes) remote shown))
     (fetches-shown nodes new (All-filter (is_new rows local) (IsEntryShown nodes) remote shown)) made)
@@ -185,11 +185,11 @@ then-earlier drive first more path node then = record {
 
 pub had-longer : (drive more later : List Step) (part : List LocalStep) → AllByRecursion (IsFromDrive drive more) part → AllByRecursion (IsFromDrive drive (more ++ later)) part
 had-longer drive more later part from =
-    each-also (IsFromDrive drive more) (IsFromDrive drive (more ++ later)) (step-also drive more drive (more ++ later) (then-longer drive more later)) part from
+    each-so (IsFromDrive drive more) (IsFromDrive drive (more ++ later)) (step-also drive more drive (more ++ later) (then-longer drive more later)) part from
 
 pub had-earlier : (drive first more : List Step) (part : List LocalStep) → AllByRecursion (IsFromDrive (drive ++ first) more) part → AllByRecursion (IsFromDrive drive (first ++ more)) part
 had-earlier drive first more part from =
-    each-also (IsFromDrive (drive ++ first) more) (IsFromDrive drive (first ++ more)) (step-also (drive ++ first) more drive (first ++ more) (then-earlier drive first more)) part from
+    each-so (IsFromDrive (drive ++ first) more) (IsFromDrive drive (first ++ more)) (step-also (drive ++ first) more drive (first ++ more) (then-earlier drive first more)) part from
 
 -- ---- looks make nothing
 look-had : (drive more : List Step) (step : LocalStep) → IsLook step → IsFromDrive drive more step
@@ -207,4 +207,4 @@ look-had drive more (Op (op.Discard aside)) look = tt
 look-had drive more (Op op.Asides) look = tt
 
 pub had-looks : (drive more : List Step) (part : List LocalStep) → AllByRecursion IsLook part → AllByRecursion (IsFromDrive drive more) part
-had-looks drive more part looks = each-also IsLook (IsFromDrive drive more) (look-had drive more) part looks
+had-looks drive more part looks = each-so IsLook (IsFromDrive drive more) (look-had drive more) part looks

@@ -1,6 +1,7 @@
 -- The image that was committed last and its token, and the requests of transfers, over calls in a row.
 use Rattle.std.proofs.Common.{◌≡◌, ℕ, Bool, true, List, [], ◌++◌, Option, Some, ap, sym, ◌∙◌, append_assoc}
 use Rattle.std.proofs.lemmas.List.{append-nil}
+use Rattle.gd_names.proofs.Each.{each-append}
 use Rattle.gd_item.specs.declared.request.Request.{Request}
 use Rattle.gd_item.specs.declared.step.Step.{Step}
 use Rattle.od_keeper.specs.Images.{applied}
@@ -17,7 +18,6 @@ use Rattle.od_sync.specs.Serving.{KeepsToken, Leaves}
 use Rattle.od_sync.specs.Syncing.{IsDoStop}
 use Rattle.od_sync.specs.declared.scanning.FolderFault.{FolderFault}
 use Rattle.od_sync.specs.declared.scanning.FolderFault.TheVariants as scan
-use Rattle.od_sync.proofs.EachStep.{each-both}
 
 -- ---- the last image
 pub leaves-none : (image : Image) (images : Option (List Image)) → Leaves image image images images
@@ -88,7 +88,7 @@ grows-then Such before now after first second = record {
       let two = second.told (old ++ one.part) one.grown in
       record {
         part = one.part ++ two.part;
-        such = each-both (IsSuch Such) one.part two.part one.such two.such;
+        such = each-append (IsSuch Such) one.part two.part one.such two.such;
         grown = two.grown ∙ ap (λ steps. Some steps) (append_assoc old one.part two.part);
       };
 }

@@ -10,8 +10,7 @@ use Rattle.gd_item.specs.Sound.{IsItemMap}
 use Rattle.gd_item.specs.declared.item.Item.{Item}
 use Rattle.gd_item.specs.declared.live.LiveItem.{LiveItem}
 use Rattle.gd_item.specs.declared.live.Tombstone.{Tombstone}
-use Rattle.gd_item.proofs.Pairs.{AllPairs-tail}
-use Rattle.od_mirror.proofs.Pairs.{each-later, each-so, each-both, each-append, each-always}
+use Rattle.gd_names.proofs.Each.{AllPairs-tail, each-later, each-so, each-both, each-append, each-always}
 use Rattle.od_sync.proofs.KeptPullLive.{Rising, none-later, none-has}
 use Rattle.od_sync.proofs.KeptPullMarks.{IsLiving, IsGone, IsMarked, AreTwo, Differ}
 use Rattle.od_sync.proofs.KeptPullSince.{was_removed}

@@ -14,8 +14,8 @@ use Rattle.gd_item.specs.declared.live.LiveItem.{LiveItem}
 use Rattle.gd_item.specs.declared.live.Tombstone.{Tombstone}
 use Rattle.od_keeper.specs.Sound.{uncounted, uncounted_kind}
 use Rattle.od_mirror.specs.Pulled.{with_records}
+use Rattle.gd_names.proofs.Each.{each-so}
 use Rattle.od_mirror.proofs.Feed.{by_number}
-use Rattle.od_mirror.proofs.Pairs.{each-so}
 use Rattle.od_sync.proofs.KeptPullMaps.{look, Up, same-looks, each_value, look-each, up-each, values-each}
 use Rattle.od_sync.proofs.KeptPullLive.{Rising, none-later}
 use Rattle.od_sync.proofs.KeptPullMarks.{IsLiving, IsGone, IsMarked}

@@ -5,7 +5,7 @@ use Rattle.std.specs.List.{AllByRecursion}
 use Rattle.std.specs.Option.{option_map}
 use Rattle.gd_item.specs.Inventory.{live_at, changed}
 use Rattle.gd_item.specs.declared.live.LiveItem.{LiveItem}
-use Rattle.od_mirror.proofs.Pairs.{each-append}
+use Rattle.gd_names.proofs.Each.{each-append}
 use Rattle.od_sync.proofs.KeptPullMaps.{crossed, either-way}
 
 -- the items without that of a number

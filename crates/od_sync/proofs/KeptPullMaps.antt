@@ -9,8 +9,8 @@ use Rattle.std.specs.Map.{values_of, remove_entry}
 use Rattle.std.specs.Option.{option_map}
 use Rattle.std.specs.Ordering.{nat_cmp, is_eq}
 use Rattle.std.specs.declared.cmp.Ordering.TheVariants.{Less, Equal, Greater}
+use Rattle.gd_names.proofs.Each.{each-so}
 use Rattle.od_mirror.proofs.Inserted.{put, put-less, put-equal, put-greater, all-put}
-use Rattle.od_mirror.proofs.Pairs.{each-so}
 
 pub same-number : (n : ℕ) → nat_eq n n ≡ true
 same-number n = eq-eqb n n refl

@@ -6,8 +6,8 @@ use Rattle.std.specs.List.{AllByRecursion}
 use Rattle.gd_item.specs.Inventory.{Effect, MadeFolder, PutNew, PutOver, Moved, Removed, Inventory, new_drive, made_folder, made_file, with_bytes, with_place, changed, live_at, tombstone_of, after, after_all, inventory}
 use Rattle.gd_item.specs.declared.live.LiveItem.{LiveItem}
 use Rattle.gd_item.specs.declared.live.Tombstone.{Tombstone}
+use Rattle.gd_names.proofs.Each.{each-so, each-append}
 use Rattle.gd_item.proofs.Soundness.{with_added}
-use Rattle.od_mirror.proofs.Pairs.{each-so, each-append}
 use Rattle.od_sync.proofs.KeptPullLive.{lacking, each-changed, each-lacking, Rising, rising-append, rising-changed, rising-lacking, of-living, none-changed, none-lacking, gone-lacking, none-append}
 
 pub record IsLiving (held : Inventory) (item : LiveItem) : Type 0 where

@@ -8,7 +8,7 @@ use Rattle.std.specs.Option.{option_map}
 use Rattle.gd_item.specs.Inventory.{Effect, MadeFolder, PutNew, PutOver, Moved, Removed, Inventory, made_folder, made_file, with_bytes, with_place, changed, live_at, tombstone_of, after, after_all}
 use Rattle.gd_item.specs.declared.live.LiveItem.{LiveItem}
 use Rattle.gd_item.specs.declared.live.Tombstone.{Tombstone}
-use Rattle.od_mirror.proofs.Pairs.{each-always}
+use Rattle.gd_names.proofs.Each.{each-always}
 use Rattle.od_sync.proofs.KeptPullLive.{or_live, of-living, live-append, live-changed, live-lacking}
 
 -- whether an item of a number was removed past a position and a start

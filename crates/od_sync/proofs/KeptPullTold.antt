@@ -10,8 +10,8 @@ use Rattle.gd_item.specs.declared.item.Kind.{Kind}
 use Rattle.gd_item.specs.declared.item.Kind.TheVariants.{Folder, File, Deleted}
 use Rattle.od_keeper.specs.Sound.{uncounted, uncounted_kind}
 use Rattle.od_mirror.specs.Pulled.{with_kind, with_record, with_records}
+use Rattle.gd_names.proofs.Each.{each-both}
 use Rattle.od_mirror.proofs.Inserted.{put, put-less, put-greater, all-put}
-use Rattle.od_mirror.proofs.Pairs.{each-both}
 use Rattle.od_sync.proofs.KeptPullMaps.{look, Up, look-put, up-put, look-without, up-without, crossed}
 
 -- the item that a record is of, if it is not that of a removed one

@@ -3,7 +3,6 @@ pub mod PulledViews
 pub mod FirstPull
 pub mod Looks
 pub mod Compared
-pub mod InOrder
 pub mod Below
 pub mod Scanned
 pub mod Finding
@@ -19,7 +18,6 @@ pub mod KeptPullItems
 pub mod KeptPullBounds
 pub mod KeptPullPage
 pub mod KeptPull
-pub mod EachStep
 pub mod Made
 pub mod Placed
 pub mod RowsPut

@@ -14,10 +14,10 @@ use Rattle.od_tree.specs.declared.step.LocalStep.{LocalStep}
 use Rattle.od_tree.specs.declared.step.LocalStep.TheVariants.{User, Op}
 use Rattle.od_tree.specs.declared.step.TreeOp.{TreeOp}
 use Rattle.od_tree.specs.declared.step.TreeOp.TheVariants as op
+use Rattle.gd_names.proofs.Each.{each-so, each-append, each-first, each-second}
 use Rattle.od_tree.proofs.Steps.{local-snoc}
 use Rattle.od_sync.specs.Doing.{CanStand, IsMaking, IsMakingOf, Made, Makes, placed_file}
 use Rattle.od_sync.specs.Making.{MakesOne, PlacesOne}
-use Rattle.od_sync.proofs.EachStep.{each-also, each-both, each-first, each-second}
 
 -- ---- how the log grows
 module _ (IsFolder : List (List ℕ) → Type 0) (IsFile : List (List ℕ) → List ℕ → Type 0) where
@@ -31,7 +31,7 @@ module _ (IsFolder : List (List ℕ) → Type 0) (IsFile : List (List ℕ) → L
   by-op : (call : TreeOp) (old : List LocalStep) (edits : List UserEdit) (after : Option (List LocalStep)) → IsMakingOf IsFolder IsFile (Op call) → after ≡ Some (with_op old edits call) → Made IsFolder IsFile old after
   by-op call old edits after makes is = record {
     part = map (λ (edit : UserEdit). User edit) edits ++ Op call ∷ [];
-    makes = each-both (IsMakingOf IsFolder IsFile) (map (λ (edit : UserEdit). User edit) edits) (Op call ∷ []) (edits-make edits) (makes, tt);
+    makes = each-append (IsMakingOf IsFolder IsFile) (map (λ (edit : UserEdit). User edit) edits) (Op call ∷ []) (edits-make edits) (makes, tt);
     grown = is ∙ ap (λ log. Some log) (append_assoc old (map (λ (edit : UserEdit). User edit) edits) (Op call ∷ []));
   }
 
@@ -61,7 +61,7 @@ makes-then {IsFolder} {IsFile} before now after first second = record {
       let two = second.told (old ++ one.part) one.grown in
       record {
         part = one.part ++ two.part;
-        makes = each-both (IsMakingOf IsFolder IsFile) one.part two.part one.makes two.makes;
+        makes = each-append (IsMakingOf IsFolder IsFile) one.part two.part one.makes two.makes;
         grown = two.grown ∙ ap (λ log. Some log) (append_assoc old one.part two.part);
       };
 }
@@ -89,7 +89,7 @@ makes-so {IsFolder} {NowFolder} {IsFile} {NowFile} before after folder file make
       let made = makes.told old told in
       record {
         part = made.part;
-        makes = each-also (IsMakingOf IsFolder IsFile) (IsMakingOf NowFolder NowFile) (making-so IsFolder NowFolder IsFile NowFile folder file) made.part made.makes;
+        makes = each-so (IsMakingOf IsFolder IsFile) (IsMakingOf NowFolder NowFile) (making-so IsFolder NowFolder IsFile NowFile folder file) made.part made.makes;
         grown = made.grown;
       };
 }
@@ -109,7 +109,7 @@ making-step IsFolder IsFile (Op (op.Discard aside)) makes = makes
 making-step IsFolder IsFile (Op op.Asides) makes = makes
 
 pub makes-steps : (IsFolder : List (List ℕ) → Type 0) (IsFile : List (List ℕ) → List ℕ → Type 0) (part : List LocalStep) → AllByRecursion (IsMakingOf IsFolder IsFile) part → AllByRecursion IsMaking part
-makes-steps IsFolder IsFile part makes = each-also (IsMakingOf IsFolder IsFile) IsMaking (making-step IsFolder IsFile) part makes
+makes-steps IsFolder IsFile part makes = each-so (IsMakingOf IsFolder IsFile) IsMaking (making-step IsFolder IsFile) part makes
 
 -- ---- one part of a log that is two
 pub record InTwo (old part : List LocalStep) (now after : Option (List LocalStep)) : Type 0 where

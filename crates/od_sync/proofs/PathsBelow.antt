@@ -6,8 +6,8 @@ use Rattle.gd_item.specs.Nodes.{Node, path_of}
 use Rattle.gd_item.specs.Trees.{at_path, placed}
 use Rattle.gd_item.specs.declared.item.Item.{Item}
 use Rattle.od_mirror.specs.Pulled.{nodes, paths_of}
+use Rattle.gd_names.proofs.Ordered.{Path, all-in-order-from}
 use Rattle.od_sync.proofs.FreshPlansPaths.{path-long}
-use Rattle.od_sync.proofs.InOrder.{Path, all-in-order-from}
 use Rattle.od_sync.proofs.Uncounted.{is_other}
 
 abbrev IsBelow : Path × Item → Type 0

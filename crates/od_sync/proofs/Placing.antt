@@ -2,11 +2,12 @@
 use Rattle.std.proofs.Common.{ℕ, List, [], ◌∷◌, filter, Option, Some, None}
 use Rattle.std.proofs.lemmas.List.Elements.{All-filter, All-from_recursion, recursion_from_All}
 use Rattle.std.specs.List.{AllByRecursion}
+use Rattle.gd_names.specs.Ordered.{in_order}
 use Rattle.gd_item.specs.Nodes.{Node, path_of}
-use Rattle.gd_item.specs.Trees.{at_path, placed, in_order}
+use Rattle.gd_item.specs.Trees.{at_path, placed}
 use Rattle.gd_item.specs.declared.item.Item.{Item}
 use Rattle.od_mirror.specs.Pulled.{nodes, paths_of}
-use Rattle.od_sync.proofs.InOrder.{all-in-order-from}
+use Rattle.gd_names.proofs.Ordered.{all-in-order-from}
 use Rattle.od_sync.proofs.Uncounted.{is_other}
 
 module _ {X : Type 0} (Q : X → Type 0) where

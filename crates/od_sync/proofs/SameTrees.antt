@@ -1,9 +1,10 @@
 -- A folder compares as the same with the items that were pulled of a drive exactly where its tree is the drive's, and what was
 -- found compares so exactly where it is what a scan of the drive's tree shows.
 use Rattle.std.proofs.Common.{◌≡◌, ℕ, true, List, ◌++◌, map, ap, sym, ◌∙◌}
+use Rattle.gd_names.specs.Ordered.{in_order}
 use Rattle.gd_item.specs.Records.{records_of}
 use Rattle.gd_item.specs.Steps.{held_by, accepted_by}
-use Rattle.gd_item.specs.Trees.{tree_of, in_order}
+use Rattle.gd_item.specs.Trees.{tree_of}
 use Rattle.gd_item.specs.declared.item.Item.{Item}
 use Rattle.gd_item.specs.declared.step.Step.{Step}
 use Rattle.gd_store.proofs.Logs.{sound-log}

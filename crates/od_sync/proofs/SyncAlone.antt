@@ -3,11 +3,11 @@ use Rattle.std.proofs.Common.{ℕ, Bool, List, [], ◌++◌, Option, Some, refl,
 use Rattle.std.proofs.lemmas.List.{append-nil}
 use Rattle.gd_item.specs.declared.step.Step.{Step}
 use Rattle.od_keeper.specs.Undisturbed as keeper_alone
-use Rattle.od_mirror.proofs.Pairs.{each-append}
 use Rattle.od_transfer.specs.Undisturbed as remote_alone
 use Rattle.od_tree.specs.Undisturbed as tree_alone
 use Rattle.od_tree.specs.declared.step.LocalStep.{LocalStep}
 use Rattle.od_sync.specs.Rounds.{AllAlone}
+use Rattle.gd_names.proofs.Each.{each-append}
 use Rattle.od_sync.proofs.Undisturbing.{undisturbed-then}
 
 -- ---- the folder

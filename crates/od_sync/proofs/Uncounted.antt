@@ -1,8 +1,9 @@
 -- Items that differ in the numbers of children alone stand at the same paths, and compare as the same with the same entries.
 use Rattle.std.proofs.Common.{◌≡◌, ℕ, Bool, true, false, not, ◌&&◌, cond, List, [], ◌∷◌, filter, map, nat_eq, Option, Some, None, refl, ap, sym, ◌∙◌}
 use Rattle.std.specs.Cmp.Lexicographic.{pointwise}
+use Rattle.gd_names.specs.Ordered.{in_order}
 use Rattle.gd_item.specs.Nodes.{Node, item_node, path_of}
-use Rattle.gd_item.specs.Trees.{in_order, at_path, placed}
+use Rattle.gd_item.specs.Trees.{at_path, placed}
 use Rattle.gd_item.specs.declared.item.Item.{Item}
 use Rattle.gd_item.specs.declared.item.Kind.{Kind}
 use Rattle.gd_item.specs.declared.item.Kind.TheVariants as kinds

@@ -1,8 +1,8 @@
 -- The entries of a folder, as they are listed.
 use Rattle.std.specs.Prelude.{ℕ, ◌+◌, Bool, ◌&&◌, List, map, filter, length, nat_eq, is_none, Option, Some, None}
 use Rattle.std.specs.Map.{values_of}
+use Rattle.gd_names.specs.Ordered.{in_order}
 use Rattle.gd_item.specs.Places.{last_name}
-use Rattle.gd_item.specs.Trees.{in_order}
 use Rattle.od_tree.specs.Local.{is_from}
 use Rattle.od_tree.specs.declared.entry.Entry.{Entry}
 use Rattle.od_tree.specs.declared.local.LocalFile.{LocalFile}

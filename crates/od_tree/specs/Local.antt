@@ -5,8 +5,8 @@ use Rattle.std.specs.List.{list_any, starts_with}
 use Rattle.std.specs.Option.{option_map}
 use Rattle.std.specs.Cmp.Lexicographic.{pointwise}
 use Rattle.gd_item.specs.Places.{names_above}
-use Rattle.gd_item.specs.Trees.{in_order}
 use Rattle.gd_names.specs.Causes.{first_cause}
+use Rattle.gd_names.specs.Ordered.{in_order}
 use Rattle.od_tree.specs.declared.edit.UserEdit.{UserEdit}
 use Rattle.od_tree.specs.declared.edit.UserEdit.TheVariants.{Write, Remove, Move, MakeFolder}
 use Rattle.od_tree.specs.declared.fault.TreeFault.{TreeFault}

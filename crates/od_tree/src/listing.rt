@@ -1,6 +1,6 @@
 ghost use Rattle.std.specs.Prelude.{◌≡◌, ◌∷◌, [], map, filter, IfOk, OnOk, List};
+ghost use Rattle.gd_names.specs.Ordered.{in_order, in_order_from};
 ghost use Rattle.gd_item.specs.Places.{last_name};
-ghost use Rattle.gd_item.specs.Trees.{in_order, in_order_from};
 ghost use Rattle.od_tree.specs.Listing.{is_right_below, size_in, entry_of, entries_in};
 ghost use Rattle.od_tree.specs.Local.{bytes_in, tree_of_spots};
 

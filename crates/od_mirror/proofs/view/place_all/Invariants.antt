@@ -1,6 +1,7 @@
 use Rattle.std.proofs.Common.{◌≡◌, drop, not, filter, nat_eq}
+use Rattle.gd_names.specs.Ordered.{in_order_from}
 use Rattle.gd_item.specs.declared.item.Item.{Item}
-use Rattle.gd_item.specs.Trees.{in_order_from, placed}
+use Rattle.gd_item.specs.Trees.{placed}
 use Rattle.od_mirror.specs.Pulled.{nodes, paths_of}
 use Rattle.od_mirror.proofs.view.place_all.Given as goal
 

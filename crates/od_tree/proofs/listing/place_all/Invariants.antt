@@ -1,5 +1,5 @@
 use Rattle.std.proofs.Common.{◌≡◌, map, drop}
-use Rattle.gd_item.specs.Trees.{in_order_from}
+use Rattle.gd_names.specs.Ordered.{in_order_from}
 use Rattle.od_tree.specs.Local.{bytes_in, tree_of_spots}
 use Rattle.od_tree.specs.declared.local.Spot.{Spot}
 use Rattle.od_tree.proofs.listing.place_all.Given as goal

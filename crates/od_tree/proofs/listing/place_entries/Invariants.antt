@@ -1,5 +1,5 @@
 use Rattle.std.proofs.Common.{◌≡◌, map, filter, drop}
-use Rattle.gd_item.specs.Trees.{in_order, in_order_from}
+use Rattle.gd_names.specs.Ordered.{in_order, in_order_from}
 use Rattle.od_tree.specs.Listing.{is_right_below, entry_of}
 use Rattle.od_tree.specs.declared.local.Spot.{Spot}
 use Rattle.od_tree.proofs.listing.place_entries.Given as goal

@@ -8,7 +8,7 @@ use Rattle.std.specs.Ordering.{nat_cmp, match_ordering, ordering_then, ordering_
 use Rattle.std.specs.declared.cmp.Ordering.{Ordering}
 use Rattle.std.specs.declared.cmp.Ordering.TheVariants.{Less, Equal, Greater}
 use Rattle.std.proofs.lemmas.Map.Lookups.{exact_bytes}
-use Rattle.gd_item.specs.Trees.{path_cmp, in_order_from}
+use Rattle.gd_names.specs.Ordered.{path_cmp, in_order_from}
 
 abbrev pub Path : Type 0
 Path = List (List ℕ)
@@ -54,10 +54,10 @@ module _ {X : Type 0} where
   all-in Q entry (first ∷ entries) all (inr more) = all-in Q entry entries all.1 more
 
   -- ---- one more entry
-  abbrev put : List (Path × X) → Path → X → List (Path × X)
+  abbrev pub put : List (Path × X) → Path → X → List (Path × X)
   put entries path x = insert_entry path_cmp entries path x
 
-  abbrev placed_by : Ordering → Path → X → Path × X → List (Path × X) → List (Path × X)
+  abbrev pub placed_by : Ordering → Path → X → Path × X → List (Path × X) → List (Path × X)
   placed_by o path x entry entries = match_ordering o ((path, x) ∷ entry ∷ entries) ((entry.0, x) ∷ entries) (entry ∷ put entries path x)
 
   all-at : (Q : Path × X → Type 0) (o : Ordering) (path : Path) (x : X) (entry : Path × X) (entries : List (Path × X)) → path_cmp path entry.0 ≡ o
@@ -133,6 +133,11 @@ module _ {X : Type 0} where
         in-order-keeps other (put so_far entry.0 entry.1) entries all.1 has (subst (λ (e : Path × X). In e (put so_far entry.0 entry.1)) (sym same) (in-put entry.0 entry.1 so_far))
     in-order-has other so_far (entry ∷ entries) all has (inr more) = in-order-has other (put so_far entry.0 entry.1) entries all.1 has more
 
+  -- what is below all stands first
+  pub put-first : (path : Path) (x : X) (entries : List (Path × X)) → Above path entries → put entries path x ≡ (path, x) ∷ entries
+  put-first path x [] above = refl
+  put-first path x (entry ∷ entries) above = ap (λ o. placed_by o path x entry entries) above.0
+
   -- ---- a test keeps the order
   module _ (test : Path → Bool) where
     abbrev pub kept : List (Path × X) → List (Path × X)
@@ -154,10 +159,6 @@ module _ {X : Type 0} where
     rises-kept [] rises = tt
     rises-kept (entry ∷ entries) rises =
         rises-kept-if (test entry.0) entry (kept entries) (all-kept (λ (other : Path × X). path_cmp entry.0 other.0 ≡ Less) entries rises.0) (rises-kept entries rises.1)
-
-    put-first : (path : Path) (x : X) (entries : List (Path × X)) → Above path entries → put entries path x ≡ (path, x) ∷ entries
-    put-first path x [] above = refl
-    put-first path x (entry ∷ entries) above = ap (λ o. placed_by o path x entry entries) above.0
 
     kept-put-at : (o : Ordering) (b c : Bool) (path : Path) (x : X) (entry : Path × X) (entries : List (Path × X)) → path_cmp path entry.0 ≡ o → test path ≡ b → test entry.0 ≡ c
         → Above entry.0 entries → kept (put entries path x) ≡ cond b (put (kept entries) path x) (kept entries)

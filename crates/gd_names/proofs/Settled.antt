@@ -1,17 +1,15 @@
 -- A name that is settled as free is no sibling's, and what stands over an item stands over a file of that name.
-use Rattle.std.proofs.Common.{◌≡◌, ℕ, zero, suc, ◌+◌, ◌^◌, ◌<◌, ◌≤◌, Bool, true, false, not, ◌&&◌, cond, ◌||◌, nat_le, eqb, leb, List, [], ◌∷◌, ◌++◌, map, length, codes, Option, Some, None, sym, refl, ap₂, ◌∙◌, subst, ⊎_elim, arith}
+use Rattle.std.proofs.Common.{◌≡◌, ℕ, zero, suc, ◌+◌, ◌^◌, ◌<◌, ◌≤◌, Bool, true, false, not, ◌&&◌, cond, nat_le, eqb, leb, List, [], ◌∷◌, ◌++◌, map, length, codes, Option, Some, None, sym, refl, ap₂, ◌∙◌, subst, ⊎_elim, arith}
 use Rattle.std.specs.Char.{to_ascii_lowercase, is_ascii_digit}
 use Rattle.std.specs.Cmp.Lexicographic.{bytes_decides}
 use Rattle.std.specs.Fmt.{decimal}
 use Rattle.std.specs.List.{list_any, find}
 use Rattle.std.specs.Str.{all_ascii_digits}
-use Rattle.std.specs.Str.Parse.{digits_value}
 use Rattle.std.proofs.lemmas.Bool.{cond-true, cond-false, cases_Bool, cases_eq, both_ways, false_from_ne_true, and_parts, or_cases, or_left, or_right, eq-eqb, leb-true}
 use Rattle.std.proofs.lemmas.Bool.Decides.{nat_tests}
 use Rattle.std.proofs.lemmas.Fmt.{digits_decimal, decimal_injective}
 use Rattle.std.proofs.lemmas.List.{length-map}
 use Rattle.std.proofs.lemmas.Map.Steps.{le-length_from_below}
-use Rattle.std.proofs.lemmas.Str.Parse.{IsNumeralModel, numerals_by_value, tells_all_ascii_digits}
 use Rattle.gd_names.specs.Caseless.{lower_case, equal_caseless}
 use Rattle.gd_names.specs.Numbered.{extension, stem, numbered}
 use Rattle.gd_names.specs.Settling.{is_taken, least_number, settled_at, settled}
@@ -20,6 +18,8 @@ use Rattle.gd_names.specs.declared.conflict.Conflict.TheVariants.{Fail, Replace,
 use Rattle.gd_names.specs.declared.conflict.Sibling.{Sibling}
 use Rattle.gd_names.specs.declared.conflict.Settle.TheVariants.{Free, Over, Refuse}
 use Rattle.gd_names.proofs.CaselessParts.{fronts_apart, ends_apart}
+use Rattle.gd_names.proofs.Decimals.{own}
+use Rattle.gd_names.proofs.Small.{none_found}
 
 -- a file over a file
 file_over : (folder other : Bool) (id number : ℕ) → cond (not folder && not other) (Over id) Refuse ≡ Over number → (id ≡ number) × (other ≡ false) × (folder ≡ false)
@@ -46,9 +46,6 @@ over_at (Some other) Rename siblings name folder number is =
 pub over-sibling : (behaviour : Conflict) (siblings : List Sibling) (name : List ℕ) (folder : Bool) (number : ℕ) → settled behaviour siblings name folder ≡ Over number → (sibling : Sibling) × (find (λ s. equal_caseless s.name name) siblings ≡ Some sibling) × (sibling.id ≡ number) × (sibling.folder ≡ false) × (folder ≡ false)
 over-sibling behaviour siblings name folder number is =
     over_at (find (λ s. equal_caseless s.name name) siblings) behaviour siblings name folder number is
-
-own : IsNumeralModel (λ ds. all_ascii_digits ds ≡ true) (digits_value 10)
-own = numerals_by_value (λ ds. all_ascii_digits ds ≡ true) tells_all_ascii_digits
 
 -- digits have no case
 digit_in_lower_case : (d : ℕ) → is_ascii_digit d ≡ true → to_ascii_lowercase d ≡ d
@@ -185,14 +182,6 @@ renamed-free siblings name folder few =
     (cases_eq (q + 1) number) in
     let fit : length siblings + 1 ≤ length siblings = taken_fit name folder (length siblings + 1) siblings (omega arith) each in
     omega arith)
-
-none_found : {X : Type 0} (test : X → Bool) (xs : List X) → find test xs ≡ None → list_any test xs ≡ false
-none_found test [] none = refl
-none_found test (x ∷ xs) none =
-    ⊎_elim
-    (λ here. absurd (let found = cond-true (test x) (Some x) (find test xs) here in cc))
-    (λ here. ap₂ (λ a b. a || b) here (none_found test xs (sym (cond-false (test x) (Some x) (find test xs) here) ∙ none)))
-    (cases_Bool (test x))
 
 free_is_made : (fits : Bool) (made free : List ℕ) → cond fits (Free made) Refuse ≡ Free free → made ≡ free
 free_is_made true made free is = cc
