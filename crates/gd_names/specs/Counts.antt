@@ -8,6 +8,10 @@ pub record Counts : Type 0 where
   pub calls : ℕ
   pub faults : ℕ
 
+-- before the first call
+abbrev pub no_calls : Counts
+no_calls = record { calls = 0; faults = 0 }
+
 -- one more, up to the last value of a u64
 abbrev pub one_more : ℕ → ℕ
 one_more n = min (n + 1) (2 ^ 64 - 1)

@@ -30,6 +30,10 @@ read_failing_of source = source.failing
 abbrev pub write_failing_of : MemorySink → List ℕ
 write_failing_of sink = sink.failing
 
+-- how many bytes the source gives at a time
+abbrev pub read_piece_of : MemorySource → ℕ
+read_piece_of source = source.piece
+
 -- how many calls were made, and how many of them failed
 abbrev pub read_counts_of : MemorySource → Counts
 read_counts_of source = record { calls = source.calls; faults = source.faults }

@@ -47,12 +47,14 @@ pub struct MemorySink {
 }
 
 impl MemorySink {
-    ghost use Rattle.gd_names.specs.Memory.{written_of, write_faults_of, write_failing_of};
+    ghost use Rattle.gd_names.specs.Counts.{no_calls};
+    ghost use Rattle.gd_names.specs.Memory.{written_of, write_faults_of, write_failing_of, write_counts_of};
 
     pub fn new(alloc: Global, failing: List<u64>) -> MemorySink
         ensures written { written_of result ≡ Some [] }
         ensures faults { write_faults_of result ≡ 0 }
         ensures failing { write_failing_of result ≡ failing }
+        ensures counts { write_counts_of result ≡ no_calls }
     {
         MemorySink {
             bytes: Bytes::new(alloc),

@@ -1,5 +1,5 @@
 ghost use Rattle.std.specs.Prelude.{◌≡◌, ℕ, ◌<◌, ◌≤◌, List, length, is_err, Option, Some, IfOk};
-ghost use Rattle.gd_names.specs.Counts.{is_listed};
+ghost use Rattle.gd_names.specs.Counts.{no_calls, is_listed};
 
 use crate::bytes::Bytes;
 use crate::list::List;
@@ -59,13 +59,15 @@ fn is_listed(numbers: &List<u64>, number: u64) -> bool
 }
 
 impl MemorySource {
-    ghost use Rattle.gd_names.specs.Memory.{left_of, read_faults_of, read_failing_of};
+    ghost use Rattle.gd_names.specs.Memory.{left_of, read_faults_of, read_failing_of, read_piece_of, read_counts_of};
 
     pub fn new(bytes: Bytes, piece: usize, failing: List<u64>) -> MemorySource
         requires { 0 < piece }
         ensures left { left_of result ≡ Some bytes }
         ensures faults { read_faults_of result ≡ 0 }
         ensures failing { read_failing_of result ≡ failing }
+        ensures piece { read_piece_of result ≡ piece }
+        ensures counts { read_counts_of result ≡ no_calls }
     {
         MemorySource {
             bytes,
