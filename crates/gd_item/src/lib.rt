@@ -51,6 +51,3 @@ pub use tree_laws::{
     made_folder_keeps_tree, moved_item_keeps_tree, new_bytes_keep_tree, new_drive_is_tree,
     new_file_keeps_tree, numbers_count_effects, removed_items_keep_tree,
 };
-
-#[cfg(test)]
-mod tests;
