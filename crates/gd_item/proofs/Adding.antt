@@ -21,7 +21,7 @@ pub some-from : {A : Type 0} (found : Option A) → is_some found ≡ true → (
 some-from None h = absurd cc
 some-from (Some x) h = (x, refl)
 
-at-push : (nodes : List Node) (node : Node) (number : ℕ) (found : Option Node) → node_at number nodes ≡ found
+pub at-push : (nodes : List Node) (node : Node) (number : ℕ) (found : Option Node) → node_at number nodes ≡ found
     → node_at number (nodes ++ node ∷ []) ≡ option_or found (cond (nat_eq node.number number) (Some node) None)
 at-push nodes node number found is =
     find-append (λ x. nat_eq x.number number) nodes (node ∷ []) ∙ ap (λ o. option_or o (cond (nat_eq node.number number) (Some node) None)) is
@@ -43,7 +43,7 @@ pub new-at : (nodes : List Node) (node : Node) → All (λ other. other.number <
 new-at nodes node above =
     at-push nodes node node.number None (none-at node.number nodes above) ∙ ap (λ b. option_or None (cond b (Some node) None)) (eq-eqb node.number node.number refl)
 
-path-of-root : (steps : ℕ) (nodes : List Node) (number : ℕ) → nat_eq number 1 ≡ true → path_within steps nodes number ≡ Some []
+pub path-of-root : (steps : ℕ) (nodes : List Node) (number : ℕ) → nat_eq number 1 ≡ true → path_within steps nodes number ≡ Some []
 path-of-root zero nodes number root = ap (λ b. cond b (Some []) None) root
 path-of-root (suc steps) nodes number root = ap (λ b. cond b (Some []) (path_of_node (path_within steps nodes) nodes (node_at number nodes))) root
 

@@ -112,7 +112,7 @@ pub plain-log : (log more : List Step) → (state_of log).plain ≡ true → (st
 plain-log log more = (later-log log more).plain
 
 -- the versions that more effects put come after those of before
-accepted-append : (held : Inventory) (effects more : List Effect) → accepted_after held (effects ++ more) ≡ accepted_after held effects ++ accepted_after (after_all held effects) more
+pub accepted-append : (held : Inventory) (effects more : List Effect) → accepted_after held (effects ++ more) ≡ accepted_after held effects ++ accepted_after (after_all held effects) more
 accepted-append held [] more = refl
 accepted-append held (effect ∷ effects) more =
     ap (λ versions. put_by held effect ++ versions) (accepted-append (after held effect) effects more)

@@ -21,7 +21,7 @@ use Rattle.gd_item.proofs.Reaching.{IsChild, Climbs, climb-of-path, reached}
 use Rattle.gd_item.proofs.Soundness.{not-twin}
 
 -- the nodes of items of which one is moved
-abbrev moved : ℕ → ℕ → ℕ → List ℕ → List LiveItem → List Node
+abbrev pub moved : ℕ → ℕ → ℕ → List ℕ → List LiveItem → List Node
 moved number change parent name items = map live_node (changed number (with_place change parent name) items)
 
 -- a node at its new place
@@ -29,7 +29,7 @@ abbrev placed_at : ℕ → List ℕ → Node → Node
 placed_at parent name node = record node { parent = Some parent; name = name }
 
 -- each other node stays
-other-kept : (number change parent : ℕ) (name : List ℕ) (other : ℕ) → nat_eq other number ≡ false → (items : List LiveItem)
+pub other-kept : (number change parent : ℕ) (name : List ℕ) (other : ℕ) → nat_eq other number ≡ false → (items : List LiveItem)
     → node_at other (moved number change parent name items) ≡ node_at other (map live_node items)
 other-kept number change parent name other apart [] = refl
 other-kept number change parent name other apart (item ∷ items) =
@@ -73,7 +73,7 @@ test-moved test blind number change parent name other (item ∷ items) =
           [ true ↦ refl | false ↦ test-moved test blind number change parent name other items ])
     ]
 
-folder-moved : (number change parent : ℕ) (name : List ℕ) (other : ℕ) (items : List LiveItem) → is_folder other (moved number change parent name items) ≡ is_folder other (map live_node items)
+pub folder-moved : (number change parent : ℕ) (name : List ℕ) (other : ℕ) (items : List LiveItem) → is_folder other (moved number change parent name items) ≡ is_folder other (map live_node items)
 folder-moved number change parent name other items =
     ap (λ b. nat_eq other 1 || b) (test-moved is_some_folder (λ item change parent name. refl) number change parent name other items)
 

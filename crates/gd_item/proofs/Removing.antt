@@ -26,7 +26,7 @@ abbrev pub IsEmpty : ℕ → List LiveItem → Type 0
 IsEmpty number items = All (λ item. nat_eq item.parent number ≡ false) items
 
 -- each other node stays
-other-left : (number other : ℕ) → nat_eq other number ≡ false → (items : List LiveItem) → node_at other (map live_node (without number items)) ≡ node_at other (map live_node items)
+pub other-left : (number other : ℕ) → nat_eq other number ≡ false → (items : List LiveItem) → node_at other (map live_node (without number items)) ≡ node_at other (map live_node items)
 other-left number other apart [] = refl
 other-left number other apart (item ∷ items) =
     let rest : List LiveItem = without number items in
@@ -41,7 +41,7 @@ other-left number other apart (item ∷ items) =
     ]) refl
 
 -- the removed one is gone
-gone : (number : ℕ) (items : List LiveItem) → node_at number (map live_node (without number items)) ≡ None
+pub gone : (number : ℕ) (items : List LiveItem) → node_at number (map live_node (without number items)) ≡ None
 gone number [] = refl
 gone number (item ∷ items) =
     let rest : List LiveItem = without number items in

@@ -1,7 +1,7 @@
 -- Facts on each element of a list, and on each pair of its elements.
 use Rattle.std.proofs.Common.{suc, List, [], ◌∷◌, ◌++◌, arith}
 use Rattle.std.specs.List.{All, AllPairs, AllByRecursion}
-use Rattle.std.proofs.lemmas.List.Elements.{All-head, All-tail}
+use Rattle.std.proofs.lemmas.List.Elements.{All-nil, All-cons, All-head, All-tail}
 
 pub AllPairs-nil : {X : Type 0} (R : X → X → Type 0) → AllPairs R []
 AllPairs-nil R i j d i<j j<0 = absurd (omega arith)
@@ -17,6 +17,11 @@ module _ {X : Type 0} where
   pub each : (P : X → Type 0) (xs : List X) → All P xs → AllByRecursion P xs
   each P [] all = tt
   each P (x ∷ xs) all = (All-head P x xs all, each P xs (All-tail P x xs all))
+
+  -- and back
+  pub all-each : (P : X → Type 0) (xs : List X) → AllByRecursion P xs → All P xs
+  all-each P [] all = All-nil P
+  all-each P (x ∷ xs) all = All-cons P x xs all.0 (all-each P xs all.1)
 
   pub each-later : (R : X → X → Type 0) (x : X) (xs : List X) → AllPairs R (x ∷ xs) → AllByRecursion (R x) xs
   each-later R x xs pairs = each (R x) xs (AllPairs-head R x xs pairs)

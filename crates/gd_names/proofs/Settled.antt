@@ -53,7 +53,7 @@ digit_in_lower_case d is =
     let high : d ≤ 57 = leb-true d 57 (and_parts (leb 48 d) (leb d 57) is).1 in
     grind (arith, nat_tests)
 
-digits_in_lower_case : (ds : List ℕ) → all_ascii_digits ds ≡ true → lower_case ds ≡ ds
+pub digits_in_lower_case : (ds : List ℕ) → all_ascii_digits ds ≡ true → lower_case ds ≡ ds
 digits_in_lower_case [] are = refl
 digits_in_lower_case (d ∷ ds) are =
     let parts = and_parts _ _ are in

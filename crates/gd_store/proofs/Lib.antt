@@ -1,13 +1,9 @@
-pub mod Allowed
 pub mod Changes
 pub mod Climbs
-pub mod Counts
 pub mod Feeds
-pub mod Files
 pub mod Gives
 pub mod Insides
 pub mod Listing
-pub mod Logs
 pub mod Overwriting
 pub mod Removals
 pub mod Sounds

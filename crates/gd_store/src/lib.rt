@@ -4,7 +4,6 @@
 mod children;
 mod edit;
 mod feed;
-mod laws;
 mod look;
 mod moving;
 mod path;
@@ -14,7 +13,6 @@ mod store;
 mod versions;
 
 pub use gd_item::StoreFault;
-pub use laws::every_log_is_a_tree;
 pub use store::Store;
 
 #[cfg(test)]

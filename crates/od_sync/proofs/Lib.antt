@@ -10,12 +10,8 @@ pub mod LeftAlone
 pub mod Undisturbing
 pub mod KeptPullMaps
 pub mod KeptPullTold
-pub mod KeptPullLive
-pub mod KeptPullMarks
-pub mod KeptPullSince
 pub mod KeptPullFeed
 pub mod KeptPullItems
-pub mod KeptPullBounds
 pub mod KeptPullPage
 pub mod KeptPull
 pub mod Made
@@ -46,8 +42,6 @@ pub mod LooksFound
 pub mod RecordDigests
 pub mod SameItems
 pub mod PullWalks
-pub mod RisingNumbers
-pub mod FileSizes
 pub mod PageTokens
 pub mod OwnRequests
 pub mod Chained

@@ -34,27 +34,6 @@ use Rattle.od_transfer.specs.Undisturbed.{is_page, is_servable}
 use Rattle.od_sync.proofs.KeptPullBounds.{number-fits, epoch-fits}
 use Rattle.od_sync.proofs.KeptPullPage.{given_for, unless-cond, asked-token}
 
--- ---- the floor is at most the number
-number-rises : (effects more : List Effect) → (inventory effects).number ≤ (inventory (effects ++ more)).number
-number-rises effects more = omega (arith, number-inventory effects, number-inventory (effects ++ more), length-append effects more)
-
-floor-step : (state : State) (step : Step) → state.floor ≤ (held state).number → (after_step state step).floor ≤ (held (after_step state step)).number
-floor-step state (Ask who request served heard) low =
-    elim (is_accepted state request served) as (λ b. (cond b (after_request state who request) state).floor ≤ (held (cond b (after_request state who request) state)).number) [
-      | true ↦ omega (arith, low, number-rises state.effects (effects_of state request))
-      | false ↦ low
-    ]
-floor-step state (Event (Expire number)) low = omega (arith, low)
-floor-step state (Event Restore) low = low
-floor-step state (Event (EndSession session)) low = low
-
-floor-steps : (state : State) (steps : List Step) → state.floor ≤ (held state).number → (after_steps state steps).floor ≤ (held (after_steps state steps)).number
-floor-steps state [] low = low
-floor-steps state (step ∷ steps) low = floor-steps (after_step state step) steps (floor-step state step low)
-
-pub floor-low : (log : List Step) → (state_of log).floor ≤ number_of log
-floor-low log = floor-steps new_state log (omega arith)
-
 -- ---- the tests of a token
 abbrev unless_tests : Bool → Bool → Bool → Token → Asked
 unless_tests other ahead old token = asked_unless (cond other (Some (Lost UploadDifferences)) (cond ahead (Some Bad) (cond old (Some (Lost ApplyDifferences)) None))) token

@@ -5,15 +5,13 @@ use Rattle.std.proofs.lemmas.Bool.Decides.{nat_tests}
 use Rattle.std.proofs.lemmas.List.Elements.{All-head, All-tail}
 use Rattle.gd_names.specs.declared.conflict.Sibling.{Sibling}
 use Rattle.gd_names.proofs.Each.{AllPairs-head, AllPairs-tail}
+use Rattle.gd_names.proofs.Small.{not-root}
 use Rattle.gd_item.specs.declared.live.LiveItem.{LiveItem}
 use Rattle.gd_item.specs.Nodes.{Node, live_node, node_at, is_some_folder, is_folder}
 use Rattle.gd_item.specs.Refusals.{sibling_of, siblings_in}
 
 differs : (a b : ℕ) → a < b → nat_eq a b ≡ false
 differs a b lt = grind (arith, nat_tests)
-
-not-one : (a : ℕ) → 1 < a → nat_eq a 1 ≡ false
-not-one a lt = grind (arith, nat_tests)
 
 -- a sibling that is found is one of the items
 pub above : (p : Sibling → Bool) (parent low : ℕ) (items : List LiveItem) (sibling : Sibling) → All (λ item. low < item.number) items → find p (siblings_in parent items) ≡ Some sibling → low < sibling.id
@@ -44,7 +42,7 @@ file-at p parent (item ∷ items) sibling pairs all found file =
     ap (λ b. nat_eq sibling.id 1 || is_some_folder (cond b (Some (live_node item)) (node_at sibling.id nodes))) off ∙ ih in
     let here : sibling_of item ≡ sibling → is_folder sibling.id (live_node item ∷ nodes) ≡ false =
     λ s.
-    let no_one : nat_eq item.number 1 ≡ false = not-one item.number big in
+    let no_one : nat_eq item.number 1 ≡ false = not-root item.number big in
     let same : nat_eq item.number item.number ≡ true = eq-eqb item.number item.number refl in
     let is_file : is_none item.bytes ≡ false = ap (λ (x : Sibling). x.folder) s ∙ file in
     let P : Sibling → Type 0 = λ x. is_folder x.id (live_node item ∷ nodes) ≡ false in

@@ -9,7 +9,7 @@ use Rattle.gd_item.specs.Inventory.{Effect, MadeFolder, PutNew, PutOver, Moved, 
 use Rattle.gd_item.specs.declared.live.LiveItem.{LiveItem}
 use Rattle.gd_item.specs.declared.live.Tombstone.{Tombstone}
 use Rattle.gd_names.proofs.Each.{each-always}
-use Rattle.od_sync.proofs.KeptPullLive.{or_live, of-living, live-append, live-changed, live-lacking}
+use Rattle.gd_laws.proofs.Living.{or_live, of-living, live-append, live-changed, live-lacking}
 
 -- whether an item of a number was removed past a position and a start
 abbrev pub is_removal : ℕ → ℕ → ℕ → Tombstone → Bool

@@ -1,37 +1,21 @@
 -- What holds where a call has no refusal.
-use Rattle.std.proofs.Common.{◌≡◌, ℕ, ◌+◌, ◌-◌, ◌^◌, ◌<◌, ◌≤◌, Bool, true, false, not, cond, ◌||◌, nat_lt, List, length, is_some, Option, Some, None, refl, sym, ap, subst, arith}
-use Rattle.std.proofs.lemmas.Bool.Decides.{nat_tests}
+use Rattle.std.proofs.Common.{◌≡◌, ℕ, ◌+◌, ◌-◌, ◌^◌, ◌<◌, ◌≤◌, true, false, not, ◌||◌, nat_lt, List, length, is_some, None, refl, sym, ap, subst, arith}
 use Rattle.gd_names.specs.Names.{name_fault}
 use Rattle.gd_names.specs.declared.conflict.Conflict.{Conflict}
 use Rattle.gd_names.specs.declared.conflict.Settle.{Settle}
 use Rattle.gd_names.specs.declared.conflict.Settle.TheVariants.{Free, Refuse}
+use Rattle.gd_names.proofs.Small.{clear, un-not, neither, not-below}
 use Rattle.gd_item.specs.declared.condition.Condition.{Condition}
 use Rattle.gd_item.specs.Inventory.{Inventory}
 use Rattle.gd_item.specs.Nodes.{is_folder}
 use Rattle.gd_item.specs.Refusals.{is_there, settled_in, is_refuse, settled_path, is_too_long, made_items, is_over_quota, make_folder_refusal, put_under_refusal}
 use Rattle.gd_item.specs.Trees.{nodes_of}
 
--- a list of causes with no refusal: the first test is false, and the others refuse nothing
-pub clear : {Cause : Type 0} (test : Bool) (cause : Cause) (rest : Option Cause) → None ≡ cond test (Some cause) rest → (test ≡ false) × (None ≡ rest)
-clear true cause rest h = absurd cc
-clear false cause rest h = (refl, h)
-
-pub un-not : (b : Bool) → not b ≡ false → b ≡ true
-un-not true h = refl
-un-not false h = absurd cc
-
-pub neither : (a b : Bool) → (a || b) ≡ false → (a ≡ false) × (b ≡ false)
-neither true b h = absurd cc
-neither false b h = (refl, h)
-
 -- the room that a drive has
 pub record HasRoom (held : Inventory) (items bytes : ℕ) : Type 0 where
   pub few : length held.items + 1 + items ≤ 100000
   pub early : held.number + 1 ≤ 2 ^ 64 - 1
   pub light : held.kept + bytes ≤ 536870912
-
-pub not-below : (a b : ℕ) → nat_lt a b ≡ false → b ≤ a
-not-below a b h = grind (arith, nat_tests)
 
 pub has-room : (held : Inventory) (items bytes : ℕ) → is_over_quota held items bytes ≡ false → HasRoom held items bytes
 has-room held items bytes h =

@@ -6,7 +6,18 @@ use Rattle.std.specs.Option.{option_map}
 use Rattle.gd_item.specs.Inventory.{live_at, changed}
 use Rattle.gd_item.specs.declared.live.LiveItem.{LiveItem}
 use Rattle.gd_names.proofs.Each.{each-append}
-use Rattle.od_sync.proofs.KeptPullMaps.{crossed, either-way}
+
+-- one choice after another
+module _ {Y : Type 0} where
+  pub crossed : (b c : Bool) (v w d : Y) → (b ≡ true → c ≡ true → ⊥) → cond b v (cond c w d) ≡ cond c w (cond b v d)
+  crossed true true v w d apart = absurd (apart refl refl)
+  crossed true false v w d apart = refl
+  crossed false true v w d apart = refl
+  crossed false false v w d apart = refl
+
+  pub either-way : (b : Bool) (d : Y) → cond b d d ≡ d
+  either-way true d = refl
+  either-way false d = refl
 
 -- the items without that of a number
 abbrev pub lacking : ℕ → List LiveItem → List LiveItem

@@ -1,29 +1,23 @@
 -- What holds of a drive after any effects, refused or not: the numbers of its items rise, and each change number and
 -- each item's number is of one living or removed item.
-use Rattle.std.proofs.Common.{◌≡◌, ℕ, ◌+◌, ◌<◌, ◌≤◌, List, [], ◌∷◌, ◌++◌, Option, Some, None, refl, ap, sym, subst, ◌∙◌, arith}
+use Rattle.std.proofs.Common.{◌≡◌, ◌≢◌, ℕ, ◌+◌, ◌<◌, ◌≤◌, List, [], ◌∷◌, ◌++◌, Option, Some, None, refl, ap, sym, subst, ◌∙◌, arith}
 use Rattle.std.proofs.lemmas.List.{append-nil}
-use Rattle.std.specs.List.{AllByRecursion}
+use Rattle.std.specs.List.{All, AllByRecursion, AllPairs}
+use Rattle.std.proofs.lemmas.List.Kept.{AllPairs-cons}
+use Rattle.std.proofs.lemmas.List.Quantifiers.{all_pairs_push}
 use Rattle.gd_item.specs.Inventory.{Effect, MadeFolder, PutNew, PutOver, Moved, Removed, Inventory, new_drive, made_folder, made_file, with_bytes, with_place, changed, live_at, tombstone_of, after, after_all, inventory}
 use Rattle.gd_item.specs.declared.live.LiveItem.{LiveItem}
 use Rattle.gd_item.specs.declared.live.Tombstone.{Tombstone}
-use Rattle.gd_names.proofs.Each.{each-so, each-append}
+use Rattle.gd_names.proofs.Each.{AllPairs-nil, all-each, each-so, each-append}
 use Rattle.gd_item.proofs.Soundness.{with_added}
-use Rattle.od_sync.proofs.KeptPullLive.{lacking, each-changed, each-lacking, Rising, rising-append, rising-changed, rising-lacking, of-living, none-changed, none-lacking, gone-lacking, none-append}
+use Rattle.gd_laws.specs.EveryDrive.{IsGone}
+use Rattle.gd_laws.proofs.Living.{lacking, each-changed, each-lacking, Rising, rising-append, rising-changed, rising-lacking, of-living, none-changed, none-lacking, gone-lacking, none-append}
 
 pub record IsLiving (held : Inventory) (item : LiveItem) : Type 0 where
   pub above : 1 < item.number
   pub made : item.number < held.next
   pub later : 1 < item.change
   pub done : item.change ≤ held.number
-
--- a removed item has a number and a change number of its own
-pub record IsGone (held : Inventory) (stone : Tombstone) : Type 0 where
-  pub above : 1 < stone.number
-  pub made : stone.number < held.next
-  pub later : 1 < stone.change
-  pub done : stone.change ≤ held.number
-  pub gone : live_at stone.number held.items ≡ None
-  pub apart : AllByRecursion (λ (item : LiveItem). item.change ≡ stone.change → ⊥) held.items
 
 abbrev pub AreTwo : Tombstone → Tombstone → Type 0
 AreTwo a b = (a.number ≡ b.number → ⊥) × (a.change ≡ b.change → ⊥)
@@ -35,10 +29,12 @@ Differ (stone ∷ stones) = AllByRecursion (λ (other : Tombstone). AreTwo other
 pub record IsMarked (held : Inventory) : Type 0 where
   pub begun : 0 < held.number
   pub next : 1 < held.next
+  pub given : held.next ≤ held.number + 1
   pub living : AllByRecursion (IsLiving held) held.items
   pub gone : AllByRecursion (IsGone held) held.removed
   pub rising : Rising held.items
   pub differ : Differ held.removed
+  pub in_order : AllPairs (λ (x y : Tombstone). x.change < y.change) held.removed
 
 differ-append : (stones : List Tombstone) (new : Tombstone) → Differ stones → AllByRecursion (AreTwo new) stones → Differ (stones ++ new ∷ [])
 differ-append [] new differ two = (tt, tt)
@@ -51,9 +47,11 @@ added held new kept is_next is_change marked =
     let now : Inventory = with_added held new kept in
     let begun : 0 < held.number = marked.begun in
     let next : 1 < held.next = marked.next in
+    let given : held.next ≤ held.number + 1 = marked.given in
     record {
       begun = omega arith;
       next = omega arith;
+      given = omega arith;
       living = each-append (IsLiving now) held.items (new ∷ [])
           (each-so (IsLiving held) (IsLiving now) (λ item h. record {
             above = h.above;
@@ -74,6 +72,7 @@ added held new kept is_next is_change marked =
       rising = rising-append held.items new marked.rising
           (each-so (IsLiving held) (λ (item : LiveItem). item.number < new.number) (λ item h. let m : item.number < held.next = h.made in omega arith) held.items marked.living);
       differ = marked.differ;
+      in_order = marked.in_order;
     }
 
 -- ---- an item that is changed
@@ -94,9 +93,11 @@ changed-marked : (held now : Inventory) (number : ℕ) (f : LiveItem → LiveIte
 changed-marked held now number f keeps moves is_number is_next are same marked =
     let begun : 0 < held.number = marked.begun in
     let next : 1 < held.next = marked.next in
+    let given : held.next ≤ held.number + 1 = marked.given in
     record {
       begun = omega arith;
       next = omega arith;
+      given = omega arith;
       living = subst (AllByRecursion (IsLiving now)) (sym are)
           (each-changed (IsLiving now) number f held.items
           (λ item h. changed-living held now f item (omega (arith, is_next)) (sym is_number) begun (keeps item) (moves item) h)
@@ -119,6 +120,7 @@ changed-marked held now number f keeps moves is_number is_next are same marked =
           }) held.removed marked.gone);
       rising = subst Rising (sym are) (rising-changed number f held.items keeps marked.rising);
       differ = subst Differ (sym same) marked.differ;
+      in_order = subst (AllPairs (λ (x y : Tombstone). x.change < y.change)) (sym same) marked.in_order;
     }
 
 -- ---- an item that is removed
@@ -158,15 +160,25 @@ stones-after held number (Some item) is marked =
           (λ stone h. two-stones held number item stone is found.1 h) held.removed marked.gone),
     )
 
+-- its change number is the last one
+order-after : (held : Inventory) (found : Option LiveItem) → IsMarked held → AllPairs (λ (x y : Tombstone). x.change < y.change) (held.removed ++ tombstone_of (held.number + 1) found)
+order-after held None marked = subst (AllPairs (λ (x y : Tombstone). x.change < y.change)) (sym (append-nil held.removed)) marked.in_order
+order-after held (Some item) marked =
+    all_pairs_push (λ (x y : Tombstone). x.change < y.change) held.removed (record { number = item.number; parent = item.parent; change = held.number + 1 }) marked.in_order
+    (all-each (λ (stone : Tombstone). stone.change < held.number + 1) held.removed
+    (each-so (IsGone held) (λ (stone : Tombstone). stone.change < held.number + 1) (λ stone h. let done : stone.change ≤ held.number = h.done in omega arith) held.removed marked.gone))
+
 removed-marked : (held : Inventory) (number : ℕ) → IsMarked held → IsMarked (after held (Removed number))
 removed-marked held number marked =
     let now : Inventory = after held (Removed number) in
     let begun : 0 < held.number = marked.begun in
     let next : 1 < held.next = marked.next in
+    let given : held.next ≤ held.number + 1 = marked.given in
     let new = stones-after held number (live_at number held.items) refl marked in
     record {
       begun = omega arith;
       next = omega arith;
+      given = omega arith;
       living = each-lacking (IsLiving now) number held.items
           (each-so (IsLiving held) (IsLiving now) (λ item h. record {
             above = h.above;
@@ -186,6 +198,7 @@ removed-marked held number marked =
           new.0;
       rising = rising-lacking number held.items marked.rising;
       differ = new.1;
+      in_order = order-after held (live_at number held.items) marked;
     }
 
 -- ---- any effects
@@ -203,4 +216,25 @@ marked-all held [] marked = marked
 marked-all held (effect ∷ effects) marked = marked-all (after held effect) effects (marked-after held effect marked)
 
 pub is-marked : (effects : List Effect) → IsMarked (inventory effects)
-is-marked effects = marked-all new_drive effects (record { begun = omega arith; next = omega arith; living = tt; gone = tt; rising = tt; differ = tt })
+is-marked effects = marked-all new_drive effects (record {
+  begun = omega arith;
+  next = omega arith;
+  given = omega arith;
+  living = tt;
+  gone = tt;
+  rising = tt;
+  differ = tt;
+  in_order = AllPairs-nil (λ (x y : Tombstone). x.change < y.change);
+})
+
+-- ---- the same of each place, and of each two
+pub gone-each : (held : Inventory) → IsMarked held → All (IsGone held) held.removed
+gone-each held marked = all-each (IsGone held) held.removed marked.gone
+
+pub gone-once : (stones : List Tombstone) → Differ stones → AllPairs (λ (x y : Tombstone). x.number ≢ y.number) stones
+gone-once [] differ = AllPairs-nil (λ (x y : Tombstone). x.number ≢ y.number)
+gone-once (stone ∷ stones) differ =
+    AllPairs-cons (λ (x y : Tombstone). x.number ≢ y.number) stone stones
+    (all-each (λ (other : Tombstone). stone.number ≢ other.number) stones
+    (each-so (λ (other : Tombstone). AreTwo other stone) (λ (other : Tombstone). stone.number ≢ other.number) (λ other two same. two.0 (sym same)) stones differ.0))
+    (gone-once stones differ.1)

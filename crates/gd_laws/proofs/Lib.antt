@@ -1,0 +1,15 @@
+pub mod Allowed
+pub mod Counts
+pub mod Every
+pub mod Files
+pub mod Found
+pub mod Living
+pub mod Logs
+pub mod Marks
+pub mod Orderly
+pub mod Paths
+pub mod Requests
+pub mod RisingNumbers
+pub mod Serving
+pub mod Since
+pub mod Sounds
