@@ -2,7 +2,6 @@ pub mod Climbing
 pub mod Feed
 pub mod Inserted
 pub mod Keyed
-pub mod Mapped
 pub mod Misfits
 pub mod Placing
 pub mod Rising

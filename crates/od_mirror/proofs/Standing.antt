@@ -11,10 +11,10 @@ use Rattle.gd_item.specs.Trees.{at_path, placed, nodes_of, tree_of}
 use Rattle.gd_item.specs.declared.item.Item.{Item}
 use Rattle.gd_item.specs.declared.live.LiveItem.{LiveItem}
 use Rattle.gd_item.specs.Records.{records_of}
-use Rattle.od_mirror.specs.Drive.{placed_items}
+use Rattle.gd_laws.specs.Placed.{placed_items}
 use Rattle.od_mirror.specs.Pulled.{nodes, is_misplaced, is_bad, AllFit, paths_of}
 use Rattle.gd_names.proofs.Each.{AllPairs-tail, each, each-later, each-so, each-both}
-use Rattle.od_mirror.proofs.Mapped.{mapped, in-order-mapped}
+use Rattle.gd_names.proofs.Mapped.{mapped, in-order-mapped}
 use Rattle.od_mirror.proofs.Rooted.{root_node, path-with-root, root-has-none, root-is-none, no-later-twin}
 
 -- ---- the records as nodes

@@ -6,7 +6,7 @@ ghost use Rattle.gd_item.specs.Inventory.{Inventory};
 ghost use Rattle.gd_item.specs.Records.{feed, removals, record_of};
 ghost use Rattle.gd_item.specs.Sound.{IsItemMap};
 ghost use Rattle.gd_item.specs.Records.{records_of};
-ghost use Rattle.od_mirror.specs.Drive.{placed_items};
+ghost use Rattle.gd_laws.specs.Placed.{placed_items};
 ghost use Rattle.od_mirror.specs.Pulled.{with_records, nodes, AllFit, paths_of};
 
 /// The feed of a drive from its beginning gives the root and the items. They fit, and each stands at its path.

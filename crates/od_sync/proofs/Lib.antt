@@ -12,7 +12,6 @@ pub mod KeptPullMaps
 pub mod KeptPullTold
 pub mod KeptPullFeed
 pub mod KeptPullItems
-pub mod KeptPullPage
 pub mod KeptPull
 pub mod Made
 pub mod Placed
@@ -42,13 +41,9 @@ pub mod LooksFound
 pub mod RecordDigests
 pub mod SameItems
 pub mod PullWalks
-pub mod PageTokens
 pub mod OwnRequests
 pub mod Chained
 pub mod PathsBelow
-pub mod FreshPlansPaths
-pub mod FreshPlansKeys
-pub mod FreshPlansHeld
 pub mod FreshPlansTrees
 pub mod FreshPlansSpots
 pub mod FreshPlansItems

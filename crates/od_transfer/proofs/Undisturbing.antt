@@ -10,7 +10,8 @@ use Rattle.gd_item.specs.declared.step.Step.{Step}
 use Rattle.od_transfer.specs.Alone.{AreOwnServed, is_own_heard, is_own_served}
 use Rattle.od_transfer.specs.Asking.{OwnAre, Grown, AsksAgain, IsUnheard}
 use Rattle.od_transfer.specs.Fits.{is_transfer}
-use Rattle.od_transfer.specs.Undisturbed.{Undisturbed, GrowsByOwn, MayBeServed, is_page, is_servable}
+use Rattle.gd_laws.specs.Served.{is_page}
+use Rattle.od_transfer.specs.Undisturbed.{Undisturbed, GrowsByOwn, MayBeServed, is_servable}
 use Rattle.od_transfer.specs.declared.remote.AskFault.{AskFault}
 use Rattle.od_transfer.proofs.Alone.{IsReading, is_reading, reading_keeps}
 use Rattle.od_transfer.proofs.Logs.{such-also}

@@ -1,23 +1,17 @@
 -- A drive that no one else asks, and that has a reply to each request for changes since a token that it serves, and to those
 -- of fetches.
 use Rattle.std.specs.Prelude.{◌≡◌, Bool, true, false, List, ◌++◌, Option, Some, None}
-use Rattle.gd_item.specs.Pages.{Asked, Past, Latest, Bad, Lost, asked}
 use Rattle.gd_item.specs.Sessions.{State}
 use Rattle.gd_item.specs.Steps.{state_of}
 use Rattle.gd_item.specs.declared.request.Request.{Request}
 use Rattle.gd_item.specs.declared.request.Request.TheVariants.{Content, Download, Delta}
 use Rattle.gd_item.specs.declared.step.Step.{Step}
+use Rattle.gd_laws.specs.Served.{is_served_token}
 use Rattle.od_transfer.specs.Alone.{AreOwnHeard, AreOwnServed}
 
--- whether a token is one of the feed that is served
-abbrev pub is_page : Asked → Bool
-is_page (Past position start) = true
-is_page Latest = false
-is_page Bad = false
-is_page (Lost resync) = false
-
+-- whether a request is one of a fetch, or one for changes since a token that is served
 abbrev pub is_servable : State → Request → Bool
-is_servable state (Delta token) = is_page (asked state token)
+is_servable state (Delta token) = is_served_token state token
 is_servable state (Content at) = true
 is_servable state (Download id version) = true
 is_servable state request = false

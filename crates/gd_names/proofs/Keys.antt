@@ -1,22 +1,13 @@
 -- Paths of entries stay where the entries are put in order, and so does what holds of what stands at them.
-use Rattle.std.proofs.Common.{◌≡◌, ◌⊎◌, inl, inr, List, [], ◌∷◌, Option, Some, None, refl, ap, sym, subst}
-use Rattle.std.specs.BTreeMap.{insert_entry}
+use Rattle.std.proofs.Common.{◌≡◌, ◌⊎◌, inl, inr, List, [], ◌∷◌, refl, ap, sym, subst}
 use Rattle.std.specs.List.{AllByRecursion}
-use Rattle.std.specs.Ordering.{match_ordering}
 use Rattle.std.specs.declared.cmp.Ordering.{Ordering}
 use Rattle.std.specs.declared.cmp.Ordering.TheVariants.{Less, Equal, Greater}
 use Rattle.gd_names.specs.Ordered.{path_cmp, in_order_from}
-use Rattle.gd_item.specs.Trees.{at_path}
-use Rattle.gd_names.proofs.Ordered.{Path, In, exact-paths}
-use Rattle.od_mirror.proofs.Mapped.{mapped}
+use Rattle.gd_names.proofs.Mapped.{mapped}
+use Rattle.gd_names.proofs.Ordered.{Path, In, put, placed_by, exact-paths}
 
 module _ {X : Type 0} where
-  abbrev put : List (Path × X) → Path → X → List (Path × X)
-  put entries path x = insert_entry path_cmp entries path x
-
-  abbrev placed_by : Ordering → Path → X → Path × X → List (Path × X) → List (Path × X)
-  placed_by o path x entry entries = match_ordering o ((path, x) ∷ entry ∷ entries) ((entry.0, x) ∷ entries) (entry ∷ put entries path x)
-
   -- an entry stands at a path
   abbrev pub Key : Path → List (Path × X) → Type 0
   Key path [] = ⊥
@@ -58,10 +49,6 @@ module _ {X : Type 0} where
   key-in-order other so_far (entry ∷ entries) (inl same) =
       key-stays other (put so_far entry.0 entry.1) entries (subst (λ (p : Path). Key p (put so_far entry.0 entry.1)) (sym same) (key-put entry.0 entry.1 so_far))
   key-in-order other so_far (entry ∷ entries) (inr more) = key-in-order other (put so_far entry.0 entry.1) entries more
-
-  pub key-later : (path : Path) (at : Option Path) (x : X) (entries : List (Path × X)) → Key path entries → Key path (at_path at x entries)
-  key-later path None x entries key = key
-  key-later path (Some at) x entries key = inr key
 
 -- ---- what stands at the paths is looked at in another way
 module _ {X Y : Type 0} (f : X → Y) where

@@ -11,13 +11,13 @@ use Rattle.gd_item.specs.Records.{size_of}
 use Rattle.gd_item.specs.Sound.{IsItemMap, IsWithin}
 use Rattle.gd_item.specs.Trees.{at_path, placed, nodes_of}
 use Rattle.gd_item.specs.declared.live.LiveItem.{LiveItem}
-use Rattle.od_mirror.specs.Drive.{placed_items}
 use Rattle.gd_names.proofs.Each.{AllPairs-tail, each, each-later, each-so, each-both}
+use Rattle.gd_names.proofs.Keys.{Key, key-in, key-in-order, in-mapped}
+use Rattle.gd_names.proofs.Mapped.{mapped}
 use Rattle.gd_names.proofs.Ordered.{Path, In, all-in, all-in-order-from}
-use Rattle.od_mirror.proofs.Climbing.{root-path}
-use Rattle.od_mirror.proofs.Mapped.{mapped}
-use Rattle.od_sync.proofs.FreshPlansKeys.{Key, key-in, key-in-order, key-later, in-mapped}
-use Rattle.od_sync.proofs.FreshPlansPaths.{StandsUnder, stands-under, one-number, siblings-apart}
+use Rattle.gd_names.proofs.Small.{not-root}
+use Rattle.gd_laws.specs.Placed.{placed_items}
+use Rattle.gd_laws.proofs.Leading.{StandsUnder, stands-under, root-path, one-number}
 
 abbrev pub item_bytes : LiveItem → Option (List ℕ)
 item_bytes item = item.bytes
@@ -35,9 +35,6 @@ pub record IsAt (held : Inventory) (entry : Path × LiveItem) : Type 0 where
 -- ---- every item is held
 not-same : (a b : ℕ) → a < b → nat_eq a b ≡ false
 not-same a b low = grind (arith, nat_tests)
-
-not-root : (number : ℕ) → 1 < number → nat_eq number 1 ≡ false
-not-root number above = grind (arith, nat_tests)
 
 all-live : (items : List LiveItem) → AllPairs (λ (x y : LiveItem). x.number < y.number) items → AllByRecursion (λ (y : LiveItem). live_at y.number items ≡ Some y) items
 all-live [] rise = tt
@@ -66,7 +63,7 @@ at-placed : (held : Inventory) (path : Option Path) (item : LiveItem) (entries :
 at-placed held None item entries is here all = all
 at-placed held (Some path) item entries is here all = (record { item = here; path = is }, all)
 
-all-placed : (held : Inventory) (items : List LiveItem) → AllByRecursion (IsHeld held) items
+pub all-placed : (held : Inventory) (items : List LiveItem) → AllByRecursion (IsHeld held) items
     → AllByRecursion (IsAt held) (placed (λ (item : LiveItem). item.number) (nodes_of held) items)
 all-placed held [] all = tt
 all-placed held (item ∷ items) all =
@@ -76,6 +73,10 @@ pub all-at : (held : Inventory) → AllByRecursion (IsHeld held) held.items → 
 all-at held all = all-in-order-from (IsAt held) [] (placed_items held) tt (all-placed held held.items all)
 
 -- ---- every item with a path is an entry
+key-later : (path : Path) (at : Option Path) (item : LiveItem) (entries : List (Path × LiveItem)) → Key path entries → Key path (at_path at item entries)
+key-later path None item entries key = key
+key-later path (Some at) item entries key = inr key
+
 placed-key-at : (b : Bool) (all : List Node) (first item : LiveItem) (items : List LiveItem) (number : ℕ) (path : Path) → nat_eq first.number number ≡ b
     → cond b (Some first) (live_at number items) ≡ Some item → path_of all number ≡ Some path
     → (live_at number items ≡ Some item → Key path (placed (λ (i : LiveItem). i.number) all items))
@@ -124,7 +125,7 @@ folder-in held sound entries all keys parent above folder led =
     let there : (x : LiveItem) × In (above, x) entries = key-in above entries key in
     let at : IsAt held (above, there.0) = all-in (IsAt held) (above, there.0) entries all there.1 in
     let number : there.0.number ≡ parent =
-    one-number (nodes_of held) (siblings-apart held sound) (length (nodes_of held)) there.0.number parent above at.path led in
+    one-number held sound there.0.number parent above at.path led in
     let both : Some there.0 ≡ Some live.0 = sym at.item.live ∙ ap (λ (n : ℕ). live_at n held.items) number ∙ live.1 in
     let same : there.0 ≡ live.0 = cc both in
     let bytes : there.0.bytes ≡ None = ap item_bytes same ∙ none in
