@@ -16,3 +16,4 @@ pub mod Reaching
 pub mod ReadTokens
 pub mod Removing
 pub mod Soundness
+pub mod Views
