@@ -1,32 +1,28 @@
 -- Each answer of a drive is one that may come to the request.
-use Rattle.std.proofs.Common.{◌≡◌, ◌⊎◌, inl, inr, ℕ, ◌-◌, ◌^◌, Bool, true, false, not, ◌&&◌, ◌||◌, cond, nat_eq, nat_lt, nat_le, List, [], ◌∷◌, length, map, Option, Some, None, is_none, refl, sym, ap, ◌∙◌}
-use Rattle.std.specs.Option.{option_map}
+use Rattle.std.proofs.Common.{◌≡◌, ◌⊎◌, inl, inr, ℕ, ◌-◌, ◌^◌, Bool, true, false, ◌&&◌, ◌||◌, cond, nat_lt, nat_le, List, [], ◌∷◌, length, map, Option, Some, None, is_none, refl, sym, ap, ◌∙◌}
 use Rattle.std.proofs.lemmas.Bool.{or_left, or_right}
 use Rattle.gd_names.proofs.Small.{clear}
 use Rattle.gd_names.specs.declared.conflict.Settle.{Settle}
 use Rattle.gd_names.specs.declared.conflict.Settle.TheVariants as settle
 use Rattle.gd_item.specs.Answers.{refused, unserved, about, record_reply, made_or_is, effect_reply, children_reply, found_reply, content_reply, status_reply, more_reply, delta_reply, reply_to, answer_unless, bare_item, bare_reply, shown, answer, answer_of, answer_served}
-use Rattle.gd_item.specs.Faults.{status_of, code_of, session_status_of, session_code_of}
 use Rattle.gd_item.specs.Inventory.{Effect, Inventory, live_at}
 use Rattle.gd_item.specs.Moves.{patch_effect}
 use Rattle.gd_item.specs.Pages.{Asked, Past, Latest, Bad, Lost, asked, is_bad}
 use Rattle.gd_item.specs.Records.{record_at}
 use Rattle.gd_item.specs.Refusals.{settled_in, folder_effect, make_folder_effect, put_refusal, put_effect, touched, is_made}
 use Rattle.gd_item.specs.Refused.{Refusal, refuse, by_store, by_session, or_else, at_target, with_sessions, but_quota, id_number, is_unlike, last_refusal, finish_refusal, refusal}
-use Rattle.gd_item.specs.Replies.{has_status, is_refused, is_made_or_is, is_page_or_gone, is_accepted_reply, may_answer}
+use Rattle.gd_item.specs.Replies.{is_refused, is_made_or_is, is_page_or_gone, is_accepted_reply, may_answer}
 use Rattle.gd_item.specs.Requests.{kind_of}
 use Rattle.gd_item.specs.Sessions.{State, Session, held, session_at, fragment_fault, finish_fault}
-use Rattle.gd_item.specs.Steps.{effects_at, commit_effect, finish_effects, fragment_effects, effects_of, after_request, state_of}
+use Rattle.gd_item.specs.Steps.{effects_at, commit_effect, effects_of, after_request, state_of}
 use Rattle.gd_item.specs.Targets.{target_of, place_of, name_in}
 use Rattle.gd_item.specs.Versions.{version_at}
-use Rattle.gd_item.specs.declared.fault.ErrorCode.TheVariants.{InvalidRequest, ItemNotFound, GeneralException, QuotaLimitReached}
+use Rattle.gd_item.specs.declared.fault.ErrorCode.TheVariants.{InvalidRequest, ItemNotFound, QuotaLimitReached}
 use Rattle.gd_item.specs.declared.fault.SessionFault.{SessionFault}
 use Rattle.gd_item.specs.declared.fault.SessionFault.TheVariants as session
 use Rattle.gd_item.specs.declared.fault.StoreFault.{StoreFault}
 use Rattle.gd_item.specs.declared.fault.StoreFault.TheVariants as store
 use Rattle.gd_item.specs.declared.item.Item.{Item}
-use Rattle.gd_item.specs.declared.live.LiveItem.{LiveItem}
-use Rattle.gd_item.specs.declared.live.Place.{Place}
 use Rattle.gd_item.specs.declared.reply.Page.{Page}
 use Rattle.gd_item.specs.declared.reply.Reply.{Reply}
 use Rattle.gd_item.specs.declared.reply.Reply.TheVariants as reply

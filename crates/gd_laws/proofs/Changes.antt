@@ -1,15 +1,16 @@
 -- The changes of which a feed is made: each has a change number and an item of its own.
-use Rattle.std.proofs.Common.{◌≡◌, ℕ, ◌<◌, true, false, ◌&&◌, cond, nat_eq, nat_lt, List, [], ◌∷◌, ◌++◌, refl, ap, sym, arith}
+use Rattle.std.proofs.Common.{◌≡◌, ℕ, ◌<◌, true, false, ◌&&◌, cond, nat_eq, nat_lt, List, [], ◌∷◌, ◌++◌, sym, arith}
 use Rattle.std.specs.List.{AllPairs, AllByRecursion}
 use Rattle.gd_names.proofs.Each.{AllPairs-tail, each-later, each-so, each-both, each-always, each-append}
-use Rattle.gd_item.specs.Inventory.{Inventory, live_at}
+use Rattle.gd_item.specs.Inventory.{Inventory}
 use Rattle.gd_item.specs.Records.{record_of, root_record, deleted_record, root_change, live_changes, removals}
 use Rattle.gd_item.specs.Sound.{IsItemMap}
 use Rattle.gd_item.specs.declared.item.Item.{Item}
 use Rattle.gd_item.specs.declared.live.LiveItem.{LiveItem}
 use Rattle.gd_item.specs.declared.live.Tombstone.{Tombstone}
+use Rattle.gd_laws.specs.EveryDrive.{IsGone}
 use Rattle.gd_laws.proofs.Living.{Rising, none-has}
-use Rattle.gd_laws.proofs.Marks.{IsLiving, IsGone, IsMarked, AreTwo, Differ}
+use Rattle.gd_laws.proofs.Marks.{IsLiving, IsMarked, AreTwo, Differ}
 use Rattle.gd_laws.proofs.Members.{Paired, paired-append}
 
 -- two changes have neither their number nor their item in common

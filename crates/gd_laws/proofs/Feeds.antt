@@ -18,11 +18,11 @@ use Rattle.gd_item.specs.declared.live.LiveItem.{LiveItem}
 use Rattle.gd_item.specs.declared.live.Tombstone.{Tombstone}
 use Rattle.gd_item.specs.declared.step.Step.{Step}
 use Rattle.gd_item.proofs.LogsFeed.{rises-feed}
-use Rattle.gd_laws.specs.Changes.{IsRootEntry, IsLivingEntry, IsRemovedEntry, IsEntry}
+use Rattle.gd_laws.specs.Changes.{IsRootEntry, IsEntry}
 use Rattle.gd_laws.proofs.Changes.{AreApart, AllApart, all-apart}
 use Rattle.gd_laws.proofs.Every.{every-drive}
 use Rattle.gd_laws.proofs.Marks.{IsMarked, is-marked}
-use Rattle.gd_laws.proofs.Members.{SomeOf, Has, Paired, some-so, some-left, some-right, some-cases, each-has, any-from-some, some-from-any, contains-from-has, has-from-contains, paired, pairs-from}
+use Rattle.gd_laws.proofs.Members.{SomeOf, Has, Paired, some-left, some-right, some-cases, each-has, any-from-some, some-from-any, contains-from-has, has-from-contains, paired, pairs-from}
 
 -- ---- one change put among others
 abbrev put : List (ℕ × Item) → ℕ → Item → List (ℕ × Item)

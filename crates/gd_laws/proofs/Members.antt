@@ -66,16 +66,6 @@ module _ {X : Type 0} where
   has-filter test x [] is has = absurd has
   has-filter test x (y ∷ xs) is has = has-if (test y) test x y xs refl is has (λ more. has-filter test x xs is more)
 
-  kept-if : (b : Bool) (test : X → Bool) (x y : X) (xs : List X) → test y ≡ b → Has x (cond b (y ∷ filter test xs) (filter test xs)) → (Has x (filter test xs) → Has x xs × (test x ≡ true))
-      → Has x (y ∷ xs) × (test x ≡ true)
-  kept-if true test x y xs kept (inl same) later = (inl same, subst (λ (z : X). test z ≡ true) (sym same) kept)
-  kept-if true test x y xs kept (inr more) later = (inr (later more).0, (later more).1)
-  kept-if false test x y xs left more later = (inr (later more).0, (later more).1)
-
-  pub has-kept : (test : X → Bool) (x : X) (xs : List X) → Has x (filter test xs) → Has x xs × (test x ≡ true)
-  has-kept test x [] has = absurd has
-  has-kept test x (y ∷ xs) has = kept-if (test y) test x y xs refl has (λ more. has-kept test x xs more)
-
   -- ---- to and from the words that go by place
   pub any-from-some : (P : X → Type 0) (xs : List X) → SomeOf P xs → Any P xs
   any-from-some P [] some = absurd some

@@ -6,9 +6,9 @@ use Rattle.std.specs.Cmp.Lexicographic.{pointwise, bytes_decides}
 use Rattle.std.specs.Map.{values_of, keys_of}
 use Rattle.gd_names.proofs.Small.{none-given, not-below}
 use Rattle.gd_item.specs.Answers.{answer_of, answer_unless, reply_to, refused, delta_reply, bare_item, bare_reply, shown}
-use Rattle.gd_item.specs.Pages.{Asked, Bad, Latest, Lost, asked, asked_unless, asked_by_token, token_fault, is_bad, page_past, page_link}
+use Rattle.gd_item.specs.Pages.{Asked, Past, Bad, Latest, Lost, asked, asked_unless, asked_by_token, token_fault, is_bad, page_past, page_link}
 use Rattle.gd_item.specs.Records.{feed, first_of, last_of}
-use Rattle.gd_item.specs.Refused.{Refusal, refuse, refusal}
+use Rattle.gd_item.specs.Refused.{Refusal, refuse}
 use Rattle.gd_item.specs.Sessions.{State, held}
 use Rattle.gd_item.specs.Steps.{after_request, state_of, number_of}
 use Rattle.gd_item.specs.Tokens.{token_text, token_of_text}
@@ -24,7 +24,7 @@ use Rattle.gd_item.specs.declared.request.Request.TheVariants.{Delta}
 use Rattle.gd_item.specs.declared.step.Step.{Step}
 use Rattle.gd_item.specs.declared.step.Who.TheVariants.{Own}
 use Rattle.gd_item.specs.declared.token.Token.{Token}
-use Rattle.gd_laws.specs.Served.{shown_items, IsPagePast, IsLastPast}
+use Rattle.gd_laws.specs.Served.{is_page, is_served_token, shown_items, IsPagePast, IsLastPast}
 
 -- ---- a page as it is shown
 pub record IsShown (plain : Bool) (whole : Reply) (page : Page) : Type 0 where
@@ -102,6 +102,24 @@ page-of-none log size page answer =
     let given = given-page log size None page answer in
     let same : page_past (state_of log) 0 (number_of log) size ≡ given.full = cc (given.is) in
     page-past (state_of log) 0 (number_of log) size (given_for (state_of log) size (asked (state_of log) None)) page given same
+
+-- ---- a token that is served has a page
+shown-page : (plain : Bool) (full : Page) → (page : Page) × (shown plain (reply.Page full) ≡ reply.Page page)
+shown-page true full = (record full { items = map bare_item full.items }, refl)
+shown-page false full = (full, refl)
+
+page-for : (state : State) (size : ℕ) (a : Asked) → is_page a ≡ true → (page : Page) × (shown state.plain (given_for state size a) ≡ reply.Page page)
+page-for state size (Past position start) is = shown-page state.plain (page_past state position start size)
+page-for state size Latest is = absurd (cc is)
+page-for state size Bad is = absurd (cc is)
+page-for state size (Lost resync) is = absurd (cc is)
+
+pub served-page : (log : List Step) (size : ℕ) (token : Option (List ℕ)) → is_served_token (state_of log) token ≡ true → (page : Page) × (answer_of log size (Delta token) ≡ reply.Page page)
+served-page log size token is =
+    let given = page-for (state_of log) size (asked (state_of log) token) is in (
+      given.0,
+      ap (shown (state_of log).plain) (unless-cond (is_bad (asked (state_of log) token)) (refuse 400 InvalidRequest) (state_of log) size (Delta token)) ∙ given.1,
+    )
 
 -- ---- a last page has all that changed
 last-link : (epoch start number : ℕ) (last : Option ℕ) (end : List ℕ) → page_link epoch start number last ≡ link.Delta end

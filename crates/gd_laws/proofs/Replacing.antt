@@ -1,5 +1,5 @@
 -- A put that replaces bytes finds an item that lives.
-use Rattle.std.proofs.Common.{◌≡◌, ℕ, ◌-◌, Bool, true, false, not, cond, nat_eq, List, [], ◌∷◌, ◌++◌, length, map, filter, is_some, Option, Some, None, refl, sym, ap, inl, inr, subst, ◌∙◌}
+use Rattle.std.proofs.Common.{◌≡◌, ℕ, ◌-◌, Bool, true, false, cond, nat_eq, List, [], ◌∷◌, ◌++◌, length, map, filter, is_some, Option, Some, None, refl, sym, ap, inl, inr, subst, ◌∙◌}
 use Rattle.std.specs.List.{find}
 use Rattle.std.proofs.lemmas.Bool.{eq-eqb, or_left, or_cases, both_ways}
 use Rattle.gd_names.specs.Caseless.{equal_caseless}
@@ -8,12 +8,12 @@ use Rattle.gd_names.specs.declared.conflict.Settle.{Settle}
 use Rattle.gd_names.specs.declared.conflict.Settle.TheVariants.{Free, Over, Refuse}
 use Rattle.gd_names.specs.declared.conflict.Sibling.{Sibling}
 use Rattle.gd_names.proofs.Settled.{over-sibling}
-use Rattle.gd_names.proofs.Small.{clear, un-not, neither, mapped-none}
+use Rattle.gd_names.proofs.Small.{clear, un-not, mapped-none}
 use Rattle.gd_item.specs.Inventory.{Inventory, Effect, MadeFolder, PutNew, PutOver, Moved, Removed, live_at, after}
 use Rattle.gd_item.specs.Moves.{patch_effect, remove_effects, removal_order}
 use Rattle.gd_item.specs.Nodes.{live_node, node_at, is_folder, is_some_folder}
-use Rattle.gd_item.specs.Refusals.{is_there, sibling_of, siblings_in, settled_in, folder_effect, make_folder_effect, file_effect, put_over_refusal, put_refusal, put_effect}
-use Rattle.gd_item.specs.Refused.{at_target, id_number, last_refusal, finish_refusal, commit_refusal, or_else, refusal}
+use Rattle.gd_item.specs.Refusals.{is_there, sibling_of, siblings_in, settled_in, folder_effect, make_folder_effect, file_effect, put_refusal, put_effect}
+use Rattle.gd_item.specs.Refused.{at_target, id_number, last_refusal, finish_refusal, commit_refusal, refusal}
 use Rattle.gd_item.specs.Sessions.{State, Session, held, held_bytes, session_at, completes_file}
 use Rattle.gd_item.specs.Steps.{effects_at, commit_effect, fragment_effects, finish_effects, effects_of}
 use Rattle.gd_item.specs.Targets.{target_of, place_of}
@@ -25,6 +25,7 @@ use Rattle.gd_item.specs.declared.live.Place.{Place}
 use Rattle.gd_item.specs.declared.live.Place.TheVariants as place
 use Rattle.gd_item.specs.declared.request.Request.{Request}
 use Rattle.gd_item.specs.declared.request.Request.TheVariants.{Get, Children, MakeFolder, Put, Patch, Delete, Content, Download, OpenSession, Fragment, SessionStatus, CancelSession, Finish, Delta}
+use Rattle.gd_laws.proofs.Requests.{neither-refuses}
 
 abbrev pub Lives : ℕ → List LiveItem → Type 0
 Lives number items = is_some (live_at number items) ≡ true
@@ -136,10 +137,6 @@ finish-on : (state : State) (session : Option Session) → None ≡ finish_refus
 finish-on state None allowed = tt
 finish-on state (Some session) allowed = commit-on state session session.filled allowed
 
-second-none : {X : Type 0} (first second : Option X) → or_else first second ≡ None → None ≡ second
-second-none None second h = sym h
-second-none (Some first) second h = absurd (cc h)
-
 pub request-on : (state : State) (request : Request) → None ≡ refusal state request → AllOnLiving (held state) (effects_of state request)
 request-on state (Get at) h = tt
 request-on state (Children at earlier) h = tt
@@ -158,9 +155,9 @@ request-on state (Download id version) h = tt
 request-on state (OpenSession at name behaviour condition defer) h = tt
 request-on state (Fragment session first last total bytes) h =
     fragment-on state last total bytes (session_at session state.sessions)
-    (mapped-none _ (last_refusal state (session_at session state.sessions) last total bytes) (sym (second-none _ _ (sym h))))
+    (mapped-none _ (last_refusal state (session_at session state.sessions) last total bytes) (sym (neither-refuses _ _ (sym h)).1))
 request-on state (SessionStatus session) h = tt
 request-on state (CancelSession session) h = tt
 request-on state (Finish session) h =
-    finish-on state (session_at session state.sessions) (mapped-none _ (finish_refusal state (session_at session state.sessions)) (sym (second-none _ _ (sym h))))
+    finish-on state (session_at session state.sessions) (mapped-none _ (finish_refusal state (session_at session state.sessions)) (sym (neither-refuses _ _ (sym h)).1))
 request-on state (Delta token) h = tt

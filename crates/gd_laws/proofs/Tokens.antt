@@ -1,6 +1,6 @@
 -- A drive serves the token at the end of each page that it gives, and requests leave it so: the token's epoch is the drive's, its
 -- numbers are at most the drive's, and one of them is at least the floor.
-use Rattle.std.proofs.Common.{◌≡◌, ◌⊎◌, inl, inr, ℕ, ◌-◌, ◌^◌, ◌<◌, ◌≤◌, zero, suc, Bool, true, false, ◌&&◌, ◌||◌, not, cond, nat_eq, nat_lt, List, [], ◌∷◌, ◌++◌, length, max, slice_index, codes, Option, Some, None, refl, ap, sym, subst, ◌∙◌, arith}
+use Rattle.std.proofs.Common.{◌≡◌, ◌⊎◌, inl, inr, ℕ, ◌-◌, ◌^◌, ◌<◌, ◌≤◌, zero, suc, Bool, true, false, ◌||◌, not, cond, nat_eq, nat_lt, List, [], ◌∷◌, ◌++◌, length, max, slice_index, codes, Option, Some, None, refl, ap, sym, subst, ◌∙◌, arith}
 use Rattle.std.proofs.lemmas.Bool.{and_parts, eq-eqb, le-ltb, ltb-true, or_from}
 use Rattle.std.proofs.lemmas.List.{length-append}
 use Rattle.std.specs.Cmp.Lexicographic.{pointwise}
@@ -8,8 +8,8 @@ use Rattle.std.specs.List.{All, AllByRecursion, Any, list_all}
 use Rattle.std.specs.Map.{keys_of}
 use Rattle.gd_names.proofs.Small.{neither, not-below}
 use Rattle.gd_item.specs.Answers.{answer_of}
-use Rattle.gd_item.specs.Inventory.{Effect, Inventory, inventory}
-use Rattle.gd_item.specs.Pages.{Asked, Past, Bad, Latest, Lost, asked, asked_unless, asked_by_token, is_bad, page_past, latest_page, page_link}
+use Rattle.gd_item.specs.Inventory.{Effect, inventory}
+use Rattle.gd_item.specs.Pages.{Asked, Past, Bad, Latest, Lost, asked, asked_unless, asked_by_token, page_past, latest_page, page_link}
 use Rattle.gd_item.specs.Records.{record_of, deleted_record, feed, last_of}
 use Rattle.gd_item.specs.Sessions.{State, new_state, held}
 use Rattle.gd_item.specs.Sound.{IsWithin}
@@ -38,7 +38,7 @@ use Rattle.gd_laws.specs.Served.{is_page, is_served_token, is_token_safe}
 use Rattle.gd_laws.proofs.Every.{every-drive}
 use Rattle.gd_laws.proofs.Feeds.{feed-each}
 use Rattle.gd_laws.proofs.Marks.{is-marked}
-use Rattle.gd_laws.proofs.Pages.{IsShown, given_for, given-page, asked-token}
+use Rattle.gd_laws.proofs.Pages.{given_for, given-page, asked-token}
 
 -- ---- the tests of a token
 abbrev unless_tests : Bool → Bool → Bool → Token → Asked

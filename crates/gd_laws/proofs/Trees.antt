@@ -1,26 +1,24 @@
 -- The tree of a drive has its items at their paths, and a folder above each of them.
-use Rattle.std.proofs.Common.{◌≡◌, ◌⊎◌, ◌↔◌, inl, inr, ℕ, ◌≤◌, Bool, true, false, cond, nat_eq, List, [], ◌∷◌, map, Option, Some, None, refl, ap, sym, subst, ◌∙◌}
-use Rattle.std.specs.List.{All, AllByRecursion, Any, Contains}
+use Rattle.std.proofs.Common.{◌≡◌, ◌↔◌, inl, inr, ℕ, Bool, true, false, cond, nat_eq, List, [], ◌∷◌, Option, Some, None, ap, sym, subst, ◌∙◌}
+use Rattle.std.specs.List.{All, AllByRecursion, Contains}
 use Rattle.std.proofs.lemmas.List.Elements.{All-from_recursion}
 use Rattle.gd_names.specs.Ordered.{in_order}
-use Rattle.gd_names.proofs.Each.{each-so, each-both}
+use Rattle.gd_names.proofs.Each.{each-so}
 use Rattle.gd_names.proofs.Keys.{all-mapped, in-mapped}
 use Rattle.gd_names.proofs.Mapped.{mapped, in-order-mapped}
 use Rattle.gd_names.proofs.Ordered.{Path, In, all-in, in-order-has}
 use Rattle.gd_item.specs.Inventory.{Inventory, live_at}
-use Rattle.gd_item.specs.Nodes.{Node, path_of, number_at}
+use Rattle.gd_item.specs.Nodes.{path_of, number_at}
 use Rattle.gd_item.specs.Places.{names_above}
-use Rattle.gd_item.specs.Records.{size_of}
 use Rattle.gd_item.specs.Sound.{IsItemMap}
-use Rattle.gd_item.specs.Steps.{state_of, held_by}
+use Rattle.gd_item.specs.Steps.{held_by}
 use Rattle.gd_item.specs.Trees.{at_path, placed, nodes_of, tree_of}
 use Rattle.gd_item.specs.declared.live.LiveItem.{LiveItem}
 use Rattle.gd_item.specs.declared.step.Step.{Step}
-use Rattle.gd_laws.specs.EveryDrive.{EveryDrive}
 use Rattle.gd_laws.specs.Placed.{placed_items, HasAt, StandsIn}
 use Rattle.gd_laws.proofs.Every.{every-drive}
 use Rattle.gd_laws.proofs.Leading.{leads}
-use Rattle.gd_laws.proofs.Members.{SomeOf, Has, each-has, some-is, has-some, any-from-some, some-from-any, contains-from-has, has-from-contains}
+use Rattle.gd_laws.proofs.Members.{Has, each-has, some-is, has-some, any-from-some, some-from-any, contains-from-has, has-from-contains}
 use Rattle.gd_laws.proofs.PlacedItems.{item_bytes, IsHeld, IsAt, IsLed, all-held, all-at, all-led, all-placed}
 
 -- ---- entries of a list

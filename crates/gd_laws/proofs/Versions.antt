@@ -1,16 +1,16 @@
 -- The versions of a living item that a drive can give are all that it accepted for it.
-use Rattle.std.proofs.Common.{◌≡◌, ◌⊎◌, ◌↔◌, inl, inr, ℕ, ◌+◌, ◌<◌, ◌≤◌, Bool, true, false, ◌&&◌, not, cond, nat_eq, List, [], ◌∷◌, ◌++◌, filter, is_some, is_none, Option, Some, None, refl, sym, ap, subst, ◌∙◌, arith}
-use Rattle.std.specs.List.{AllByRecursion, Any, Contains}
+use Rattle.std.proofs.Common.{◌≡◌, ◌⊎◌, ◌↔◌, inl, inr, ℕ, ◌+◌, ◌<◌, ◌≤◌, Bool, true, false, ◌&&◌, cond, nat_eq, List, [], ◌∷◌, ◌++◌, filter, is_some, is_none, Option, Some, None, refl, sym, ap, subst, ◌∙◌, arith}
+use Rattle.std.specs.List.{AllByRecursion, Contains}
 use Rattle.std.specs.Option.{option_map}
-use Rattle.std.proofs.lemmas.Bool.{and_parts, both_ways, cases_Bool, eq-eqb, eqb-true, eqb-false, ne_eqb}
+use Rattle.std.proofs.lemmas.Bool.{and_parts, eq-eqb, eqb-true, eqb-false, ne_eqb}
 use Rattle.std.proofs.lemmas.List.{append-nil, append_assoc}
 use Rattle.std.proofs.lemmas.List.Elements.{filter-append}
-use Rattle.gd_names.proofs.Each.{each-so, each-both, each-append, each-always}
+use Rattle.gd_names.proofs.Each.{each-so, each-append}
 use Rattle.gd_names.proofs.Small.{none-from}
-use Rattle.gd_item.specs.Inventory.{Inventory, Effect, MadeFolder, PutNew, PutOver, Moved, Removed, new_drive, made_folder, made_file, with_bytes, with_place, changed, live_at, version_in, version_of, after, after_all, inventory}
+use Rattle.gd_item.specs.Inventory.{Inventory, Effect, MadeFolder, PutNew, PutOver, Moved, Removed, new_drive, made_folder, made_file, with_bytes, with_place, live_at, version_in, version_of, after, after_all, inventory}
 use Rattle.gd_item.specs.Refused.{refusal}
 use Rattle.gd_item.specs.Sessions.{State, new_state, held}
-use Rattle.gd_item.specs.Steps.{effects_of, is_accepted, after_request, after_event, after_step, after_steps, state_of, held_by, accepted_by}
+use Rattle.gd_item.specs.Steps.{effects_of, is_accepted, after_request, after_step, after_steps, state_of, held_by, accepted_by}
 use Rattle.gd_item.specs.Versions.{put_by, accepted_after, accepted, replaced_bytes, file_version, item_version, version_at}
 use Rattle.gd_item.specs.declared.live.LiveItem.{LiveItem}
 use Rattle.gd_item.specs.declared.live.Version.{Version}
@@ -18,13 +18,13 @@ use Rattle.gd_item.specs.declared.request.Request.{Request}
 use Rattle.gd_item.specs.declared.step.DriveEvent.TheVariants.{Expire, Restore, EndSession, Plain}
 use Rattle.gd_item.specs.declared.step.Step.{Step}
 use Rattle.gd_item.specs.declared.step.Step.TheVariants.{Ask, Event}
-use Rattle.gd_item.specs.declared.step.Who.{Who}
 use Rattle.gd_item.proofs.Effects.{inventory-append}
+use Rattle.gd_item.proofs.LogsGrow.{accepted-append}
 use Rattle.gd_item.proofs.LogsVersions.{version-log}
 use Rattle.gd_laws.specs.Given.{is_version_of, given_versions}
-use Rattle.gd_laws.proofs.Living.{lacking, of-living, or_live, live-append, live-changed, live-lacking}
+use Rattle.gd_laws.proofs.Living.{of-living, or_live, live-append, live-changed, live-lacking}
 use Rattle.gd_laws.proofs.Marks.{IsLiving, IsMarked, marked-after, is-marked}
-use Rattle.gd_laws.proofs.Members.{SomeOf, Has, some-so, some-cases, some-from-any, each-has, has-filter, contains-from-has, has-from-contains}
+use Rattle.gd_laws.proofs.Members.{Has, some-so, some-cases, some-from-any, each-has, has-filter, contains-from-has, has-from-contains}
 use Rattle.gd_laws.proofs.Replacing.{Lives, OnLiving, AllOnLiving, request-on}
 
 -- ---- which versions are of an item
@@ -216,12 +216,6 @@ whole-all held [] versions marked whole on = subst (IsWhole held) (sym (append-n
 whole-all held (effect ∷ effects) versions marked whole on =
     subst (IsWhole (after_all (after held effect) effects)) (append_assoc versions (put_by held effect) (accepted_after (after held effect) effects))
     (whole-all (after held effect) effects (versions ++ put_by held effect) (marked-after held effect marked) (whole-after held versions marked whole effect on.0) on.1)
-
-accepted-append : (held : Inventory) (effects more : List Effect) → accepted_after held (effects ++ more) ≡ accepted_after held effects ++ accepted_after (after_all held effects) more
-accepted-append held [] more = refl
-accepted-append held (effect ∷ effects) more =
-    ap (λ versions. put_by held effect ++ versions) (accepted-append (after held effect) effects more)
-    ∙ sym (append_assoc (put_by held effect) (accepted_after (after held effect) effects) (accepted_after (after_all (after held effect) effects) more))
 
 abbrev WholeState : State → Type 0
 WholeState state = IsWhole (held state) (accepted state.effects)

@@ -8,6 +8,11 @@ ghost use Rattle.gd_laws.specs.Served.{is_served_token, is_token_safe, IsPagePas
 
 use gd_item::{Page, PageLink, Reply, Request, Step, Token};
 
+/// Where a drive serves a token, and where none is sent, it answers with a page.
+pub fn a_served_token_has_a_page()
+    ensures { (log : List Step) (size : ℕ) (token : Option (List ℕ)) → is_served_token (state_of log) token ≡ true → (page : Page) × (answer_of log size (Request.Delta token) ≡ Reply.Page page) }
+{}
+
 /// A page that is given for a token has what changed past the token's position, and one that is given for none has all
 /// that lives.
 pub fn a_page_has_what_changed()
