@@ -1,7 +1,12 @@
+mod drives;
 mod files;
 mod folders;
+mod items;
+mod moves;
+mod names;
 mod reads;
 mod requests;
+mod store;
 
 use gd_item::{Condition, ItemId, Place};
 use gd_names::{Conflict, Text};

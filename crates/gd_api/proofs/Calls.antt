@@ -19,7 +19,8 @@ use Rattle.gd_item.specs.declared.item.Item.{Item}
 use Rattle.gd_item.specs.declared.live.LiveItem.{LiveItem}
 use Rattle.gd_item.specs.declared.reply.Reply.TheVariants as reply
 use Rattle.gd_item.proofs.Effects.{inventory-snoc}
-use Rattle.gd_store.specs.Stands.{Stands, Answers, record_after}
+use Rattle.gd_store.specs.Stands.{Stands, Answers, record_after, given_unless}
+use Rattle.gd_store.proofs.Given.{given-ok}
 use Rattle.gd_api.specs.Replies.{Steps, last_item_name}
 
 -- an address names this number
@@ -89,8 +90,14 @@ found-in held number None is allowed =
     absurd (no-file (nat_eq number 1) (sym refused ∙ allowed))
 found-in held number (Some item) is allowed = ap (λ n. reply.Found (item_id n) item.content) (sym (live-number number held.items item is))
 
-pub content-found : (held : Inventory) (number content : ℕ) → file_refusal held number ≡ None → content ≡ content_at number held → reply.Found (item_id number) content ≡ content_reply held number
+content-found : (held : Inventory) (number content : ℕ) → file_refusal held number ≡ None → content ≡ content_at number held → reply.Found (item_id number) content ≡ content_reply held number
 content-found held number content allowed is = ap (λ n. reply.Found (item_id number) n) is ∙ found-in held number (live_at number held.items) refl allowed
+
+pub content-given : (held : Inventory) (number content : ℕ) → Ok content ≡ given_unless (file_refusal held number) (content_at number held)
+    → Ok (reply.Found (item_id number) content) ≡ given_unless (file_refusal held number) (content_reply held number)
+content-given held number content is =
+    let given = given-ok (file_refusal held number) content (content_at number held) is in
+    ap (λ r. Ok r) (content-found held number content given.0 given.1) ∙ ap (λ refusal. given_unless refusal (content_reply held number)) (sym given.0)
 
 -- the name of the last item, which stands before the end
 pub last-by-index : (items : List Item) (last : Item) → 0 < length items → last ≡ get_or items (length items - 1) last → Some last.name ≡ last_item_name items

@@ -1,9 +1,9 @@
 -- The feed in one page.
-use Rattle.std.proofs.Common.{◌≡◌, ℕ, ◌+◌, ◌-◌, ◌≤◌, Bool, true, false, cond, nat_lt, List, length, slice_index, is_some, Option, Some, None, refl, sym, ap, ◌∙◌, subst, arith}
-use Rattle.std.proofs.lemmas.Bool.Decides.{nat_tests}
+use Rattle.std.proofs.Common.{◌≡◌, ℕ, ◌+◌, ◌-◌, ◌≤◌, Bool, true, false, cond, nat_lt, List, length, slice_index, Option, Some, None, refl, sym, ap, ◌∙◌, subst, arith}
 use Rattle.std.proofs.lemmas.List.{take_all}
 use Rattle.std.proofs.lemmas.Map.Entries.{length-values_of}
 use Rattle.std.specs.Map.{keys_of, values_of}
+use Rattle.gd_names.proofs.Small.{not-below, none-given}
 use Rattle.gd_item.specs.Inventory.{Effect, inventory}
 use Rattle.gd_item.specs.Records.{feed, first_of, last_of}
 use Rattle.gd_item.specs.Tokens.{token_text}
@@ -17,19 +17,8 @@ use Rattle.gd_item.proofs.Effects.{number-inventory}
 use Rattle.gd_api.specs.Replies.{is_foreign}
 use Rattle.gd_api.specs.WholePage.{whole_page, page_for_token, whole_delta}
 
-not-below : (a b : ℕ) → nat_lt a b ≡ false → b ≤ a
-not-below a b h = grind (arith, nat_tests)
-
-none-given : (b : Bool) (x : ℕ) → cond b (Some x) None ≡ None → b ≡ false
-none-given true x h = absurd cc
-none-given false x h = refl
-
-not-some : {T : Type 0} (found : Option T) → is_some found ≡ false → found ≡ None
-not-some None h = refl
-not-some (Some x) h = absurd cc
-
 -- where no more follow all were given
-all-given : (most : ℕ) (changes : List (ℕ × Item)) → last_of most changes ≡ None → first_of most changes ≡ values_of changes
+pub all-given : (most : ℕ) (changes : List (ℕ × Item)) → last_of most changes ≡ None → first_of most changes ≡ values_of changes
 all-given most changes none =
     let few : length changes ≤ most = not-below most (length changes) (none-given (nat_lt most (length changes)) (slice_index (keys_of changes) (most - 1)) none) in
     let same : length (values_of changes) ≡ length changes = length-values_of changes in
@@ -40,12 +29,12 @@ pub own-number : (log : List Effect) (number : ℕ) → number ≡ length log + 
 own-number log number is = is ∙ sym (number-inventory log)
 
 pub page-is : (log : List Effect) (position start number most : ℕ) (items : List Item) (more : Option ℕ) (text : List ℕ) → number ≡ length log + 1
-    → items ≡ first_of most (feed (inventory log) position start) → more ≡ last_of most (feed (inventory log) position start) → is_some more ≡ false
+    → items ≡ first_of most (feed (inventory log) position start) → more ≡ last_of most (feed (inventory log) position start) → more ≡ None
     → text ≡ token_text (record { epoch = 1; position = number; start = start })
     → reply.Page (record { items = items; link = link.Delta text }) ≡ whole_page (inventory log) position start
 page-is log position start number most items more text counted given last none named =
     let changes = feed (inventory log) position start in
-    let all : items ≡ values_of changes = given ∙ all-given most changes (sym last ∙ not-some more none) in
+    let all : items ≡ values_of changes = given ∙ all-given most changes (sym last ∙ none) in
     let own = own-number log number counted in
     let at : ℕ → Token = λ n. record { epoch = 1; position = n; start = start } in
     let told : text ≡ token_text (at (inventory log).number) = named ∙ ap (λ n. token_text (at n)) own in

@@ -3,7 +3,7 @@ ghost use Rattle.gd_item.specs.Answers.{refused};
 ghost use Rattle.gd_item.specs.Refused.{refuse};
 ghost use Rattle.gd_item.specs.Steps.{state_of};
 ghost use Rattle.gd_item.specs.declared.step.Step.{Step};
-ghost use Rattle.gd_api.specs.Drives.{Handles, is_about_session, is_refusal};
+ghost use Rattle.gd_api.specs.Drives.{Handles, is_about_session, takes_no_memory, is_refusal};
 ghost use Rattle.gd_api.specs.Replies.{reply_of};
 ghost use Rattle.gd_api.specs.WholePage.{answer_now};
 
@@ -67,6 +67,7 @@ impl Drive {
     pub fn handle(&mut self, request: &Request) -> Reply
         ensures answer { (log : List Step) → Stands self.old log → is_about_session request.now ≡ false
             → Handles self.old self.new log request.now result (answer_now (state_of log) self.old.size request.now) }
+        ensures served { (log : List Step) → Stands self.old log → takes_no_memory request.now ≡ true → result ≡ answer_now (state_of log) self.old.size request.now }
         ensures session { is_about_session request.now ≡ true → result ≡ refused (refuse 405 ErrorCode.NotSupported) }
         ensures refusal { is_refusal result ≡ true → self.new ≡ self.old }
         ensures size { self.new.size ≡ self.old.size }
@@ -99,6 +100,7 @@ impl Drive {
             Request::Fragment { .. } => not_supported(),
             Request::SessionStatus { .. } => not_supported(),
             Request::CancelSession { .. } => not_supported(),
+            Request::Finish { .. } => not_supported(),
         }
     }
 
@@ -106,7 +108,8 @@ impl Drive {
     pub fn set_page(&mut self, page: u64)
         requires above { 1 ≤ page }
         requires below { page ≤ 200 }
-        ensures { self.new ≡ record { store = self.old.store; size = page } }
+        ensures size { self.new ≡ record { store = self.old.store; size = page } }
+        ensures stands { (log : List Step) → Stands self.old log → Stands self.new log }
     {
         self.size = page;
     }
@@ -135,6 +138,7 @@ impl Drive {
     fn content(&self, at: &Address) -> Reply
         ensures answer { (log : List Step) → Stands self.now log
             → Handles self.now self.now log (Request.Content at.now) result (answer_now (state_of log) self.now.size (Request.Content at.now)) }
+        ensures served { (log : List Step) → Stands self.now log → result ≡ answer_now (state_of log) self.now.size (Request.Content at.now) }
     {
         make_reply(reads::content(&self.store, at))
     }

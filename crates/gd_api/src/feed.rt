@@ -18,8 +18,8 @@ fn page_past(alloc: Global, store: &Store, position: u64, start: u64) -> Result<
     let number = store.number();
     let (items, more) = store.changed_after(position, start, u64::MAX)?;
     if more.is_some() {
-        // More records than a list can hold.
-        return Err(NoMemory);
+        // No list has more records.
+        unreachable!();
     }
     let token = Token {
         epoch: 1,

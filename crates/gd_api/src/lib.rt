@@ -8,6 +8,3 @@ mod steps;
 mod target;
 
 pub use drive::Drive;
-
-#[cfg(test)]
-mod tests;

@@ -7,7 +7,7 @@ ghost use Rattle.gd_item.specs.Refused.{at_target};
 ghost use Rattle.gd_item.specs.Refusals.{missing, folder_refusal, file_refusal};
 ghost use Rattle.gd_item.specs.Targets.{target_of};
 ghost use Rattle.gd_item.specs.Versions.{version_at};
-ghost use Rattle.gd_store.specs.Stands.{Stands, Answers};
+ghost use Rattle.gd_store.specs.Stands.{Stands, Answers, given_unless};
 ghost use Rattle.gd_api.specs.Replies.{last_item_name};
 
 use crate::target::find_target;
@@ -86,20 +86,21 @@ pub fn children(
     }
 }
 
-/// Where the bytes of a file are to be had.
+/// Where the bytes of a file are to be had. Takes no memory.
 fn content_at(store: &Store, id: ItemId) -> Result<Reply, StoreFault>
     ensures answer { (log : List Effect) → Stands store.now log
-        → Answers (file_refusal (inventory log) id.0) result (λ reply. reply ≡ content_reply (inventory log) id.0) }
+        → result ≡ given_unless (file_refusal (inventory log) id.0) (content_reply (inventory log) id.0) }
 {
-    let version = store.content_number(id)?;
-    Ok(Reply::Found { id, version })
+    match store.content_number(id) {
+        Ok(version) => Ok(Reply::Found { id, version }),
+        Err(fault) => Err(fault),
+    }
 }
 
-/// Where the bytes of the file that an address names are to be had.
+/// Where the bytes of the file that an address names are to be had. Takes no memory.
 pub fn content(store: &Store, at: &Address) -> Result<Reply, StoreFault>
     ensures answer { (log : List Effect) → Stands store.now log
-        → Answers (at_target (file_refusal (inventory log)) (target_of (inventory log) at.now)) result
-        (λ reply. reply ≡ about (content_reply (inventory log)) (target_of (inventory log) at.now)) }
+        → result ≡ given_unless (at_target (file_refusal (inventory log)) (target_of (inventory log) at.now)) (about (content_reply (inventory log)) (target_of (inventory log) at.now)) }
 {
     match find_target(store, at) {
         Some(id) => content_at(store, id),

@@ -1,18 +1,18 @@
 -- Bytes against the decimal digits of a number.
-use Rattle.std.proofs.Common.{rules, ◌≡◌, ℕ, ◌^◌, ◌<◌, Bool, true, false, ◌&&◌, ◌||◌, List, length, get_or, nat_eq, nat_lt, Some, None, Result, Ok, Err, sym, refl, ap, ◌∙◌, subst, ◌⊎◌, inl, inr, arith}
+use Rattle.std.proofs.Common.{rules, ◌≡◌, ℕ, ◌^◌, ◌<◌, Bool, true, false, ◌&&◌, ◌||◌, List, length, get_or, nat_eq, nat_lt, Some, None, Result, Ok, Err, sym, ap, ◌∙◌, subst, inl, inr, arith}
 use Rattle.std.specs.Cmp.Lexicographic.{bytes_decides, pointwise}
 use Rattle.std.specs.Fmt.{decimal}
 use Rattle.std.specs.Str.{IsUtf8, all_ascii_digits}
 use Rattle.std.specs.Str.Parse.{ParsesUnsigned}
-use Rattle.std.proofs.lemmas.Bool.{false_from_ne_true, and_parts, and_from, cases_Bool, eqb-true}
+use Rattle.std.proofs.lemmas.Bool.{false_from_ne_true, and_parts, and_from, or_cases, cases_Bool, eqb-true}
 use Rattle.std.proofs.lemmas.Bool.Decides.{nat_tests}
-use Rattle.std.proofs.lemmas.Fmt.{digits_decimal, digits_value-decimal, decimal-digits_value, first_decimal, decimal_nonempty, decimal_digit, IsAscii-decimal, parse-decimal}
+use Rattle.std.proofs.lemmas.Fmt.{digits_decimal, decimal-digits_value, first_decimal, decimal_nonempty, decimal_digit, IsAscii-decimal, parse-decimal}
 use Rattle.std.proofs.lemmas.Result.{OkIff-at_ok}
 use Rattle.std.proofs.lemmas.Str.{IsUtf8-from_ascii}
 use Rattle.std.proofs.lemmas.Str.Parse.{IsNumeralModel, numerals_by_fold, tells_all_ascii_digits, digit_at, parse_plain}
 use Rattle.gd_item.specs.Tokens.{digits_value, number_of_text}
 
-pub own : IsNumeralModel (λ ds. all_ascii_digits ds ≡ true) (digits_value 0)
+own : IsNumeralModel (λ ds. all_ascii_digits ds ≡ true) (digits_value 0)
 own = numerals_by_fold (λ ds. all_ascii_digits ds ≡ true) tells_all_ascii_digits digits_value (search rules)
 
 -- whether a sign, or a zero with more behind it, stands first
@@ -38,9 +38,6 @@ number_none xs other =
     other n (nat_lt_is n (2 ^ 64) parts.0) ((bytes_decides xs (decimal n)).0 parts.1)) in
     rw test
 
-pub number_of_decimal : (n : ℕ) → n < 2 ^ 64 → number_of_text (decimal n) ≡ Some n
-number_of_decimal n small = number_some (decimal n) n small (digits_value-decimal own n small) refl
-
 -- what is no text is no number
 pub not_text : (xs : List ℕ) → (IsUtf8 xs → ⊥) → number_of_text xs ≡ None
 not_text xs other = number_none xs (λ n small e. other (subst IsUtf8 (sym e) (IsUtf8-from_ascii (decimal n) (IsAscii-decimal n small))))
@@ -56,15 +53,11 @@ short_zero n small first long = elim (cases_Bool (nat_eq n 0)) [
       absurd (omega (arith, first_decimal n above small))
 ]
 
-or_true : (x y : Bool) → (x || y) ≡ true → (x ≡ true) ⊎ (y ≡ true)
-or_true true y is = inl refl
-or_true false y is = inr is
-
 -- a decimal text begins with no sign, and with a zero only where it is no longer
 not_led : (n : ℕ) → n < 2 ^ 64 → is_led (decimal n) ≡ true → ⊥
 not_led n small led =
     let within = digit_at (decimal n) 0 (own.to (decimal n) (digits_decimal own n small)) (decimal_nonempty n small) in
-    elim (or_true (nat_eq (get_or (decimal n) 0 0) 43) (nat_eq (get_or (decimal n) 0 0) 48 && nat_lt 1 (length (decimal n))) led) [
+    elim (or_cases (nat_eq (get_or (decimal n) 0 0) 43) (nat_eq (get_or (decimal n) 0 0) 48 && nat_lt 1 (length (decimal n))) led) [
       | inl sign ↦ absurd (omega (arith, eqb-true (get_or (decimal n) 0 0) 43 sign, within.0))
       | inr zero_first ↦
           let parts = and_parts (nat_eq (get_or (decimal n) 0 0) 48) (nat_lt 1 (length (decimal n))) zero_first in

@@ -1,11 +1,9 @@
 //! The tokens of the feed of changes.
 #![tactic(auto)]
 
-mod laws;
 mod token;
 
 pub use gd_item::Token;
-pub use laws::tokens_read_back;
 pub use token::{read_token, write_token};
 
 #[cfg(test)]

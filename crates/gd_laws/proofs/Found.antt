@@ -128,7 +128,7 @@ put-light held (place.Under id name) bytes behaviour condition others allowed =
 
 -- ---- an item that is moved
 -- a node is that of the living item
-node-of-live : (number : ℕ) (items : List LiveItem) → node_at number (map live_node items) ≡ option_map live_node (live_at number items)
+pub node-of-live : (number : ℕ) (items : List LiveItem) → node_at number (map live_node items) ≡ option_map live_node (live_at number items)
 node-of-live number [] = refl
 node-of-live number (item ∷ items) =
     elim (nat_eq item.number number) as (λ b. cond b (Some (live_node item)) (node_at number (map live_node items)) ≡ option_map live_node (cond b (Some item) (live_at number items)))

@@ -5,13 +5,7 @@ use Rattle.std.proofs.lemmas.Bool.Decides.{nat_tests}
 use Rattle.gd_item.specs.declared.live.LiveItem.{LiveItem}
 use Rattle.gd_item.specs.Nodes.{Node, live_node, node_at, is_folder, below, path_of_node, path_within}
 use Rattle.gd_item.specs.Inventory.{live_at}
-
--- the node of a number is that of its item
-pub node_at-live : (number : ℕ) (items : List LiveItem) → node_at number (map live_node items) ≡ option_map live_node (live_at number items)
-node_at-live number [] = refl
-node_at-live number (item ∷ items) =
-    elim (nat_eq item.number number) as (λ b. cond b (Some (live_node item)) (node_at number (map live_node items)) ≡ option_map live_node (cond b (Some item) (live_at number items)))
-    [ true ↦ refl | false ↦ node_at-live number items ]
+use Rattle.gd_laws.proofs.Found.{node-of-live}
 
 off : (number : ℕ) → (number ≡ 1 → ⊥) → nat_eq number 1 ≡ false
 off number away = grind (arith, nat_tests)
@@ -29,12 +23,12 @@ pub up : (steps : ℕ) (items : List LiveItem) (number : ℕ) (item : LiveItem) 
     → path_within steps (map live_node items) number ≡ cond (is_folder item.parent (map live_node items)) (below (path_within (steps - 1) (map live_node items) item.parent) item.name) None
 up steps items number item away some found =
     let nodes : List Node = map live_node items in
-    step steps nodes number away some ∙ ap (path_of_node (path_within (steps - 1) nodes) nodes) (node_at-live number items ∙ ap (option_map live_node) (sym found))
+    step steps nodes number away some ∙ ap (path_of_node (path_within (steps - 1) nodes) nodes) (node-of-live number items ∙ ap (option_map live_node) (sym found))
 
 pub nothing : (steps : ℕ) (items : List LiveItem) (number : ℕ) → (number ≡ 1 → ⊥) → (steps ≡ 0 → ⊥) → None ≡ live_at number items → None ≡ path_within steps (map live_node items) number
 nothing steps items number away some none =
     let nodes : List Node = map live_node items in
-    sym (step steps nodes number away some ∙ ap (path_of_node (path_within (steps - 1) nodes) nodes) (node_at-live number items ∙ ap (option_map live_node) (sym none)))
+    sym (step steps nodes number away some ∙ ap (path_of_node (path_within (steps - 1) nodes) nodes) (node-of-live number items ∙ ap (option_map live_node) (sym none)))
 
 pub no-folder : (steps : ℕ) (items : List LiveItem) (number : ℕ) (item : LiveItem) → (number ≡ 1 → ⊥) → (steps ≡ 0 → ⊥) → Some item ≡ live_at number items
     → false ≡ is_folder item.parent (map live_node items) → None ≡ path_within steps (map live_node items) number

@@ -9,7 +9,7 @@ use Rattle.gd_item.specs.Refusals.{is_too_long}
 use Rattle.gd_item.specs.Inventory.{Inventory, Moved, after, live_at, changed, with_place}
 use Rattle.gd_item.specs.Moves.{is_node_such, is_in_within, is_in, is_any_too_long}
 use Rattle.gd_store.specs.Moved.{is_any_long}
-use Rattle.gd_store.proofs.Climbs.{node_at-live}
+use Rattle.gd_laws.proofs.Found.{node-of-live}
 
 step-in : (steps : ℕ) (nodes : List Node) (top number : ℕ) → (number ≡ top → ⊥) → (steps ≡ 0 → ⊥)
     → is_in_within steps nodes top number ≡ is_node_such (is_in_within (steps - 1) nodes top) (node_at number nodes)
@@ -22,13 +22,13 @@ step-in (suc k) nodes top number away some =
 pub nothing-in : (steps : ℕ) (items : List LiveItem) (top number : ℕ) → (number ≡ top → ⊥) → (steps ≡ 0 → ⊥) → None ≡ live_at number items → false ≡ is_in_within steps (map live_node items) top number
 nothing-in steps items top number away some none =
     let nodes : List Node = map live_node items in
-    sym (step-in steps nodes top number away some ∙ ap (is_node_such (is_in_within (steps - 1) nodes top)) (node_at-live number items ∙ ap (option_map live_node) (sym none)))
+    sym (step-in steps nodes top number away some ∙ ap (is_node_such (is_in_within (steps - 1) nodes top)) (node-of-live number items ∙ ap (option_map live_node) (sym none)))
 
 pub up-in : (steps : ℕ) (items : List LiveItem) (top number : ℕ) (item : LiveItem) (above : Bool) → (number ≡ top → ⊥) → (steps ≡ 0 → ⊥) → Some item ≡ live_at number items
     → above ≡ is_in_within (steps - 1) (map live_node items) top item.parent → above ≡ is_in_within steps (map live_node items) top number
 up-in steps items top number item above away some found is =
     let nodes : List Node = map live_node items in
-    is ∙ sym (step-in steps nodes top number away some ∙ ap (is_node_such (is_in_within (steps - 1) nodes top)) (node_at-live number items ∙ ap (option_map live_node) (sym found)))
+    is ∙ sym (step-in steps nodes top number away some ∙ ap (is_node_such (is_in_within (steps - 1) nodes top)) (node-of-live number items ∙ ap (option_map live_node) (sym found)))
 
 -- where no item has the number, none is changed
 pub none-changed : (number : ℕ) (f : LiveItem → LiveItem) (items : List LiveItem) → None ≡ live_at number items → changed number f items ≡ items

@@ -1,6 +1,7 @@
 pub mod Changes
 pub mod Climbs
 pub mod Feeds
+pub mod Given
 pub mod Gives
 pub mod Insides
 pub mod Listing
@@ -8,3 +9,4 @@ pub mod Overwriting
 pub mod Removals
 pub mod Sounds
 pub mod Steps
+pub mod There

@@ -1,31 +1,25 @@
--- What a store holds stays a tree.
-use Rattle.std.proofs.Common.{◌≡◌, ℕ, ◌+◌, ◌^◌, ◌<◌, ◌≤◌, true, false, not, cond, nat_eq, map, List, [], ◌∷◌, length, Option, Some, None, refl, sym, subst, arith}
-use Rattle.std.specs.List.{All}
-use Rattle.std.proofs.lemmas.List.Elements.{All-weaker}
-use Rattle.gd_names.specs.Caseless.{equal_caseless}
+-- What a store holds stays a tree, and its kept bytes stay within the limit.
+use Rattle.std.proofs.Common.{◌≡◌, ◌+◌, ◌<◌, ◌≤◌, true, false, ℕ, List, [], ◌∷◌, length, Option, None, refl, sym, subst, arith}
 use Rattle.gd_names.specs.declared.conflict.Conflict.{Conflict}
-use Rattle.gd_names.specs.declared.conflict.Sibling.{Sibling}
 use Rattle.gd_names.specs.declared.conflict.Settle.{Settle}
 use Rattle.gd_names.specs.declared.conflict.Settle.TheVariants.{Free, Over, Refuse}
-use Rattle.gd_item.specs.Inventory.{Inventory, Effect, after, after_all, PutOver, Moved, Removed, live_at}
-use Rattle.gd_item.specs.Moves.{new_parent, new_name, is_bad_name, is_in, is_taken_by_other, is_any_too_long, patch_refusal, patch_effect, remove_refusal, removal_order, remove_effects}
-use Rattle.gd_item.specs.Nodes.{is_folder, path_of}
-use Rattle.gd_item.specs.Refusals.{is_there, is_met, is_too_long, is_over_quota, settled_in, siblings_in, folder_effect, file_effect, make_folder_refusal, make_folder_effect, put_over_refusal, put_under_refusal}
-use Rattle.gd_item.specs.Sound.{IsWithin, IsItemMap}
-use Rattle.gd_item.specs.Trees.{nodes_of}
+use Rattle.gd_names.proofs.Settled.{settled-free}
+use Rattle.gd_names.proofs.Small.{clear, un-not}
+use Rattle.gd_item.specs.Inventory.{Inventory, Effect, after, after_all, PutOver}
+use Rattle.gd_item.specs.Moves.{new_parent, new_name, patch_refusal, patch_effect, remove_refusal, remove_effects}
+use Rattle.gd_item.specs.Refusals.{settled_in, siblings_in, folder_effect, file_effect, make_folder_refusal, make_folder_effect, put_over_refusal, put_under_refusal}
+use Rattle.gd_item.specs.Sound.{IsItemMap}
 use Rattle.gd_item.specs.declared.condition.Condition.{Condition}
-use Rattle.gd_item.specs.declared.fault.StoreFault.{StoreFault}
-use Rattle.gd_item.specs.declared.live.LiveItem.{LiveItem}
-use Rattle.gd_item.specs.declared.fault.StoreFault.TheVariants.{NotFound, NotFolder, NotFile, Root, BadName, Modified, IntoItself, NameTaken, PathTooLong, Quota}
-use Rattle.gd_names.proofs.Settled.{settled-free, over-sibling}
 use Rattle.gd_item.proofs.Effects.{next-inventory, number-positive}
 use Rattle.gd_item.proofs.Moving.{sound-moved}
 use Rattle.gd_item.proofs.Removing.{sound-removed-all}
-use Rattle.gd_item.proofs.Soundness.{sound-folder, sound-file, sound-over}
+use Rattle.gd_item.proofs.Soundness.{sound-file, sound-over}
+use Rattle.gd_laws.proofs.Allowed.{MayPut, may-put}
+use Rattle.gd_laws.proofs.Counts.{siblings-few}
+use Rattle.gd_laws.proofs.Found.{make-finds}
+use Rattle.gd_laws.proofs.Orderly.{tree-after}
+use Rattle.gd_laws.proofs.Sounds.{few-items, over-file, over-light, removals-light}
 use Rattle.gd_store.specs.Stands.{Stands}
-use Rattle.gd_store.proofs.Allowed.{MayMake, may-make, MayPut, may-put, clear, un-not, HasRoom, has-room, next-number}
-use Rattle.gd_store.proofs.Counts.{siblings-few}
-use Rattle.gd_store.proofs.Files.{file-at}
 use Rattle.gd_store.proofs.Steps.{IsSound}
 
 -- the numbers of a store that stands for effects have begun
@@ -35,17 +29,44 @@ next-begun store log stands = let P : Inventory → Type 0 = λ held. 1 < held.n
 pub number-begun : (store : Inventory) (log : List Effect) → Stands store log → 0 < store.number
 number-begun store log stands = let P : Inventory → Type 0 = λ held. 0 < held.number in subst P (sym stands.held) (number-positive log)
 
+-- a folder that is made
+folder-light : (held : Inventory) (parent : ℕ) (name : List ℕ) (settle : Settle) → held.kept ≤ 536870912 → (after held (folder_effect parent name settle)).kept ≤ 536870912
+folder-light held parent name (Free free) light = light
+folder-light held parent name (Over id) light = light
+folder-light held parent name Refuse light = light
+
 pub make-sound : (old new : Inventory) (log : List Effect) (parent : ℕ) (name : List ℕ) (behaviour : Conflict) → Stands old log → None ≡ make_folder_refusal old parent name behaviour
     → new ≡ after old (make_folder_effect old parent name behaviour) → IsSound new
 make-sound old new log parent name behaviour stands allowed is =
-    let may = may-make old parent name behaviour (settled_in old parent name behaviour true) refl allowed in
-    subst IsSound (sym is) (record { map = folder-sound old parent name behaviour (settled_in old parent name behaviour true) stands.sound (next-begun old log stands) (number-begun old log stands) refl may; light = folder-light old parent name (settled_in old parent name behaviour true) stands.light })
+    subst IsSound (sym is) (record {
+      map = tree-after old (make_folder_effect old parent name behaviour) stands.sound (next-begun old log stands) (number-begun old log stands) (make-finds old parent name behaviour allowed).1;
+      light = folder-light old parent name (settled_in old parent name behaviour true) stands.light;
+    })
+
+-- a file that is put under a folder
+under-sound : (held : Inventory) (parent : ℕ) (name bytes : List ℕ) (behaviour : Conflict) (others : ℕ) (settle : Settle) → IsItemMap held → 1 < held.next → 0 < held.number → settled_in held parent name behaviour false ≡ settle
+    → MayPut held parent name bytes others settle → IsItemMap (after held (file_effect parent name bytes settle))
+under-sound held parent name bytes behaviour others (Free free) sound next number is may =
+    sound-file held parent free bytes sound next number may.there may.folder
+    (settled-free behaviour (siblings_in parent held.items) name free false (siblings-few parent 100000 held.items held.items (siblings_in parent held.items) refl refl (few-items held _ _ may.room)) is)
+under-sound held parent name bytes behaviour others (Over id) sound next number is may =
+    sound-over held id bytes sound number (over-file held parent name behaviour id sound is)
+under-sound held parent name bytes behaviour others Refuse sound next number is may = let had : true ≡ false = may.had in absurd cc
+
+file-light : (held : Inventory) (parent : ℕ) (name bytes : List ℕ) (others : ℕ) (settle : Settle) → MayPut held parent name bytes others settle → (after held (file_effect parent name bytes settle)).kept ≤ 536870912
+file-light held parent name bytes others (Free free) may = let light : held.kept + (length bytes + others) ≤ 536870912 = may.room.light in omega arith
+file-light held parent name bytes others (Over id) may = let light : held.kept + (length bytes + others) ≤ 536870912 = may.room.light in omega arith
+file-light held parent name bytes others Refuse may = let light : held.kept + (length bytes + others) ≤ 536870912 = may.room.light in omega arith
 
 pub put-under-sound : (old new : Inventory) (log : List Effect) (parent : ℕ) (name bytes : List ℕ) (behaviour : Conflict) (condition : Condition) (others : ℕ) → Stands old log
     → None ≡ put_under_refusal old parent name bytes behaviour condition others → new ≡ after old (file_effect parent name bytes (settled_in old parent name behaviour false)) → IsSound new
 put-under-sound old new log parent name bytes behaviour condition others stands allowed is =
-    let may = may-put old parent name bytes behaviour condition others (settled_in old parent name behaviour false) refl allowed in
-    subst IsSound (sym is) (record { map = under-sound old parent name bytes behaviour others (settled_in old parent name behaviour false) stands.sound (next-begun old log stands) (number-begun old log stands) refl may; light = file-light old parent name bytes others (settled_in old parent name behaviour false) may })
+    let settle : Settle = settled_in old parent name behaviour false in
+    let may = may-put old parent name bytes behaviour condition others settle refl allowed in
+    subst IsSound (sym is) (record {
+      map = under-sound old parent name bytes behaviour others settle stands.sound (next-begun old log stands) (number-begun old log stands) refl may;
+      light = file-light old parent name bytes others settle may;
+    })
 
 -- a file that is put over another
 pub put-over-sound : (old new : Inventory) (log : List Effect) (number : ℕ) (bytes : List ℕ) (condition : Condition) (others : ℕ) → Stands old log

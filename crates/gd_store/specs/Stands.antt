@@ -1,5 +1,5 @@
 -- For which effects a store stands, and what a call of it answers.
-use Rattle.std.specs.Prelude.{◌≡◌, ℕ, ◌<◌, ◌≤◌, ◌⊎◌, Bool, true, List, Option, Some, None, Result, IfOk, IfErr}
+use Rattle.std.specs.Prelude.{◌≡◌, ℕ, ◌<◌, ◌≤◌, ◌⊎◌, Bool, true, List, Option, Some, None, Result, Ok, Err, IfOk, IfErr}
 use Rattle.gd_item.specs.Inventory.{Inventory, Effect, after, inventory}
 use Rattle.gd_item.specs.Ids.{item_id}
 use Rattle.gd_item.specs.Records.{record_at}
@@ -20,6 +20,11 @@ pub record Stands (store : Inventory) (effects : List Effect) : Type 0 where
 pub record Answers {T : Type 0} (refusal : Option StoreFault) (result : Result T StoreFault) (Done : T → Type 0) : Type 0 where
   pub ok : IfOk result (λ x. (refusal ≡ None) × Done x)
   pub err : IfErr result (λ fault. (fault ≡ Memory) ⊎ (refusal ≡ Some fault))
+
+-- what a call gives that takes no memory: its refusal, or else this
+abbrev pub given_unless : {T : Type 0} → Option StoreFault → T → Result T StoreFault
+given_unless None x = Ok x
+given_unless (Some fault) x = Err fault
 
 -- the bounds within which a store keeps its fields: fewer than 100,000 items beside the root, and no number given
 -- above the drive's own

@@ -1,4 +1,4 @@
-ghost use Rattle.std.specs.Prelude.{◌≡◌, ◌-◌, ◌<◌, cond, nat_lt, length, slice_index, OnOk, IfOk};
+ghost use Rattle.std.specs.Prelude.{◌≡◌, ◌-◌, ◌^◌, ◌<◌, cond, nat_lt, length, slice_index, OnOk, IfOk};
 ghost use Rattle.std.specs.Map.{keys_of};
 ghost use Rattle.gd_item.specs.Records.{in_change_order_from, root_change, live_changes, removals, first_of, last_of};
 
@@ -64,7 +64,8 @@ pub fn put_stones(
 /// The last of the first numbers, at most so many, where more follow.
 fn last_number(numbers: &[u64], most: u64) -> Option<u64>
     requires { 0 < most }
-    ensures { result ≡ cond (nat_lt most (length numbers.now)) (Some (slice_index numbers.now (most - 1))) None }
+    ensures last { result ≡ cond (nat_lt most (length numbers.now)) (Some (slice_index numbers.now (most - 1))) None }
+    ensures whole { most ≡ 2 ^ 64 - 1 → result ≡ None }
 {
     if most < numbers.len() as u64 {
         Some(numbers[(most - 1) as usize])
@@ -101,7 +102,8 @@ pub fn first_changes(
     most: u64,
 ) -> Result<(List<Item>, Option<u64>), NoMemory>
     requires { 0 < most }
-    ensures { IfOk result (λ found. (found.0 ≡ first_of most changes.entries) × (found.1 ≡ last_of most changes.entries)) }
+    ensures found { IfOk result (λ found. (found.0 ≡ first_of most changes.entries) × (found.1 ≡ last_of most changes.entries)) }
+    ensures whole { IfOk result (λ found. most ≡ 2 ^ 64 - 1 → found.1 ≡ None) }
 {
     let numbers = all_numbers(alloc, &changes)?;
     let last = last_number(numbers.as_slice(), most);

@@ -14,6 +14,3 @@ mod versions;
 
 pub use gd_item::StoreFault;
 pub use store::Store;
-
-#[cfg(test)]
-mod tests;

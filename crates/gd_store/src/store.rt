@@ -1,4 +1,4 @@
-ghost use Rattle.std.specs.Prelude.{◌≡◌, List, ◌+◌, ◌<◌, ◌++◌, [], ◌∷◌, length, is_some, true, false, Some, None, IfOk, OnErr};
+ghost use Rattle.std.specs.Prelude.{◌≡◌, List, ◌+◌, ◌-◌, ◌^◌, ◌<◌, ◌++◌, [], ◌∷◌, length, is_some, true, false, Some, None, IfOk, OnErr};
 ghost use Rattle.gd_item.specs.Ids.{item_id};
 ghost use Rattle.gd_item.specs.Inventory.{Effect, after, inventory};
 ghost use Rattle.gd_item.specs.Nodes.{path_of, number_at, child_at};
@@ -10,7 +10,7 @@ ghost use Rattle.gd_item.specs.Refused.{id_number};
 ghost use Rattle.gd_item.specs.Versions.{version_at, content_at};
 ghost use Rattle.gd_item.specs.Records.{record_at, record_with, feed, first_of, last_of};
 ghost use Rattle.std.specs.Option.{option_copied, option_map};
-ghost use Rattle.gd_store.specs.Stands.{put_result, record_after};
+ghost use Rattle.gd_store.specs.Stands.{given_unless, put_result, record_after};
 ghost use Rattle.gd_item.specs.Trees.{nodes_of};
 ghost use Rattle.gd_names.specs.Names.{name_fault};
 
@@ -149,8 +149,7 @@ impl Store {
 
     /// The content number of a file. Takes no memory.
     pub fn content_number(&self, id: ItemId) -> Result<u64, StoreFault>
-        ensures { (log : List Effect) → Stands self.now log
-            → Answers (not_file (inventory log) id.0) result (λ number. number ≡ content_at id.0 (inventory log)) }
+        ensures { (log : List Effect) → Stands self.now log → result ≡ given_unless (not_file (inventory log) id.0) (content_at id.0 (inventory log)) }
     {
         self.content_of(id.0)
     }
@@ -203,7 +202,7 @@ impl Store {
     }
 
     /// The feed past a position, at most so many records of it, and the change number of the last one where more
-    /// follow.
+    /// follow. Of the greatest number of records none follow, since no list has more.
     pub fn changed_after(
         &self,
         position: u64,
@@ -211,8 +210,9 @@ impl Store {
         most: u64,
     ) -> Result<(List<Item>, Option<u64>), NoMemory>
         requires { 0 < most }
-        ensures { IfOk result (λ found. (log : List Effect) → Stands self.now log
+        ensures found { IfOk result (λ found. (log : List Effect) → Stands self.now log
             → (found.0 ≡ first_of most (feed (inventory log) position removed_after)) × (found.1 ≡ last_of most (feed (inventory log) position removed_after))) }
+        ensures whole { IfOk result (λ found. most ≡ 2 ^ 64 - 1 → found.1 ≡ None) }
     {
         let changes = self.changes(position, removed_after)?;
         first_changes(self.alloc, changes, most)
@@ -393,7 +393,7 @@ impl Store {
 
     /// The content number of a file.
     fn content_of(&self, number: u64) -> Result<u64, StoreFault>
-        ensures { Answers (not_file self.now number) result (λ content. content ≡ content_at number self.now) }
+        ensures { result ≡ given_unless (not_file self.now number) (content_at number self.now) }
     {
         if !is_known(self.items.as_slice(), number) {
             return Err(StoreFault::NotFound);

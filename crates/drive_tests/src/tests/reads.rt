@@ -51,13 +51,14 @@ fn feed(alloc: Global, drive: &mut Drive, token: &str) -> Result<u16, Fail> {
     Ok(status_of(drive, &Request::Delta { token }))
 }
 
-/// The status with which a session is not begun.
-fn begin(drive: &mut Drive) -> u16 {
+/// The status with which a session is not begun, deferred or not.
+fn begin(drive: &mut Drive, defer: bool) -> u16 {
     let request = Request::OpenSession {
         at: Address::Id(ItemId(3)),
         name: None,
         behaviour: Conflict::Fail,
         condition: Condition::Free,
+        defer,
     };
     status_of(drive, &request)
 }
@@ -82,6 +83,11 @@ fn ask(drive: &mut Drive) -> u16 {
 /// The status with which a session is not cancelled.
 fn cancel(drive: &mut Drive) -> u16 {
     status_of(drive, &Request::CancelSession { session: 1 })
+}
+
+/// The status with which a session is not finished.
+fn finish(drive: &mut Drive) -> u16 {
+    status_of(drive, &Request::Finish { session: 1 })
 }
 
 #[test]
@@ -150,7 +156,9 @@ fn refused_tokens(rt: HostRuntime) -> Result<(), Fail> {
     let mut drive = filled_drive(alloc)?;
     let tokens = [
         "",
+        "latest",
         "x1.1.1",
+        "t2.1.1",
         "t1.1",
         "t1.1.1.1",
         "t01.1.1",
@@ -169,9 +177,11 @@ fn refused_tokens(rt: HostRuntime) -> Result<(), Fail> {
 fn refused_sessions(rt: HostRuntime) -> Result<(), Fail> {
     let alloc = rt.alloc();
     let mut drive = filled_drive(alloc)?;
-    assert_eq!(rt; begin(&mut drive), 405);
+    assert_eq!(rt; begin(&mut drive, false), 405);
+    assert_eq!(rt; begin(&mut drive, true), 405);
     assert_eq!(rt; send(alloc, &mut drive)?, 405);
     assert_eq!(rt; ask(&mut drive), 405);
     assert_eq!(rt; cancel(&mut drive), 405);
+    assert_eq!(rt; finish(&mut drive), 405);
     Ok(())
 }

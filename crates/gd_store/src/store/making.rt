@@ -62,8 +62,9 @@ impl Store {
         }
         match settle {
             Settle::Free(free) => Ok(free),
-            Settle::Over(_) => Err(StoreFault::NameTaken),
-            Settle::Refuse => Err(StoreFault::NameTaken),
+            // A folder goes over nothing, and what is refused was told above.
+            Settle::Over(_) => unreachable!(),
+            Settle::Refuse => unreachable!(),
         }
     }
 
@@ -116,7 +117,9 @@ impl Store {
         self.items.push(item)?;
         match self.find_record(number, true) {
             Ok(Some(made)) => Ok(made),
-            _ => {
+            // The item was just added.
+            Ok(None) => unreachable!(),
+            Err(NoMemory) => {
                 self.items.truncate(count);
                 Err(NoMemory)
             }

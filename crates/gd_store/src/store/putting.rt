@@ -2,7 +2,7 @@ ghost use Rattle.std.specs.Prelude.{◌≡◌, ◌⊎◌, ◌+◌, ◌<◌, ◌^
 ghost use Rattle.gd_item.specs.Ids.{item_id};
 ghost use Rattle.gd_item.specs.Inventory.{PutNew, PutOver, after, live_at};
 ghost use Rattle.gd_item.specs.Nodes.{path_of};
-ghost use Rattle.gd_item.specs.Refusals.{settled_in, settled_path, is_too_long, is_made, is_met as is_condition_met, live_named, put_over_refusal, put_under_refusal, file_effect};
+ghost use Rattle.gd_item.specs.Refusals.{is_there, settled_in, settled_path, is_too_long, is_made, is_met as is_condition_met, live_named, put_over_refusal, put_under_refusal, file_effect};
 ghost use Rattle.gd_item.specs.Trees.{nodes_of};
 ghost use Rattle.gd_store.specs.Stands.{put_result, record_after};
 
@@ -216,7 +216,8 @@ impl Store {
                 self.put_bytes(number, copy)?;
                 Ok((ItemId(number), false))
             }
-            Settle::Refuse => Err(StoreFault::NameTaken),
+            // Told above.
+            Settle::Refuse => unreachable!(),
         }
     }
 
@@ -247,6 +248,7 @@ impl Store {
     /// Gives a file new bytes, and gives its record with the path of its folder. Where memory is wanting the file gets
     /// back what stood in it.
     fn put_bytes_and_get(&mut self, number: u64, bytes: Bytes) -> Result<Item, NoMemory>
+        requires there { is_there number (nodes_of self.old) ≡ true }
         requires number { self.old.number + 1 < 2 ^ 64 }
         requires kept { self.old.kept + length bytes < 2 ^ 64 }
         ensures ok { IfOk result (λ made. (record_after self.old (PutOver number bytes) ≡ Some made) × (self.new ≡ after self.old (PutOver number bytes))) }
@@ -264,7 +266,9 @@ impl Store {
                 self.kept += length;
                 Ok(made)
             }
-            _ => {
+            // The file is still there.
+            Ok(None) => unreachable!(),
+            Err(NoMemory) => {
                 restore(self.items.as_mut_slice(), number, change, content, version);
                 Err(NoMemory)
             }
@@ -316,7 +320,8 @@ impl Store {
                 let made = self.put_bytes_and_get(number, copy)?;
                 Ok((made, false))
             }
-            Settle::Refuse => Err(StoreFault::NameTaken),
+            // Told above.
+            Settle::Refuse => unreachable!(),
         }
     }
 }

@@ -205,7 +205,9 @@ impl Store {
         self.relocate(number, name, parent, condition)?;
         match self.find_record(number, true) {
             Ok(Some(made)) => Ok(made),
-            _ => {
+            // The item is still there.
+            Ok(None) => unreachable!(),
+            Err(NoMemory) => {
                 self.put_back(number, drive, old_change, old_parent, old_name);
                 Err(StoreFault::Memory)
             }

@@ -1,10 +1,16 @@
+use Rattle.gd_item.specs.Answers.{content_reply}
 use Rattle.gd_item.specs.Inventory.{inventory}
-use Rattle.gd_api.proofs.Calls.{content-found}
+use Rattle.gd_item.specs.Refusals.{file_refusal}
+use Rattle.gd_item.specs.Versions.{content_at}
+use Rattle.gd_store.proofs.Given.{given-err}
+use Rattle.gd_api.proofs.Calls.{content-given}
 use Rattle.gd_api.proofs.reads.content_at.Goals as goal
 
-pub returns : goal.returns
-returns c = record {
+pub returns-in-Ok : goal.returns-in-Ok
+returns-in-Ok c = record { answer = λ log stands. content-given (inventory log) c.args.id.0 c.in-Ok.version (c.in-Ok.ensures log stands) }
+
+pub returns-in-Err : goal.returns-in-Err
+returns-in-Err c = record {
   answer = λ log stands.
-      let answer = c.in_ok-version.ensures log stands in
-      record { ok = (answer.ok.0, content-found (inventory log) c.args.id.0 c.in_ok-version.version answer.ok.0 answer.ok.1); err = tt };
+      given-err (file_refusal (inventory log) c.args.id.0) c.in-Err.fault (content_at c.args.id.0 (inventory log)) (content_reply (inventory log) c.args.id.0) (c.in-Err.ensures log stands);
 }

@@ -1,5 +1,5 @@
 use Rattle.std.proofs.Common.{sym}
-use Rattle.gd_store.proofs.Allowed.{room-to-make, number-to-make}
+use Rattle.gd_laws.proofs.Allowed.{room-to-make, number-to-make}
 use Rattle.gd_store.proofs.store.Store.make_and_get.Goals as goal
 
 pub add_folder_and_get-requires-clause-room : goal.add_folder_and_get-requires-clause-room

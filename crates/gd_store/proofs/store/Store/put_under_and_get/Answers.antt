@@ -1,5 +1,6 @@
-use Rattle.std.proofs.Common.{sym}
-use Rattle.gd_store.proofs.Allowed.{may-put, room-for-one, next-number, kept-fits, not-refused}
+use Rattle.std.proofs.Common.{sym, ◌∙◌}
+use Rattle.gd_laws.proofs.Allowed.{may-put, room-for-one, next-number, kept-fits, not-refused}
+use Rattle.gd_store.proofs.There.{settled-there}
 use Rattle.gd_store.proofs.store.Store.put_under_and_get.Goals as goal
 
 pub add_file_and_get-requires-clause-room : goal.add_file_and_get-requires-clause-room
@@ -27,7 +28,11 @@ put_bytes_and_get-requires-clause-kept c =
     let may = may-put c.args.self.now c.args.parent c.args.name.now c.args.bytes.now c.args.behaviour c.args.condition.now c.args.others c.in_ok-settle.settle c.in_ok-settle.ensures.ok.1 (sym c.in_ok-settle.ensures.ok.0) in
     kept-fits c.args.self.now _ c.args.others c.args.bytes.now c.in_ok-copy.copy c.in_ok-copy.ensures may.room
 
-pub returns-in-Refuse-clause-answer : goal.returns-in-Refuse-clause-answer
-returns-in-Refuse-clause-answer c =
+pub unreachable-requires : goal.unreachable-requires
+unreachable-requires c =
     let may = may-put c.args.self.now c.args.parent c.args.name.now c.args.bytes.now c.args.behaviour c.args.condition.now c.args.others c.in_ok-settle.settle c.in_ok-settle.ensures.ok.1 (sym c.in_ok-settle.ensures.ok.0) in
     not-refused c.in_ok-settle.settle c.in-Refuse.is may.had
+
+pub put_bytes_and_get-requires-clause-there : goal.put_bytes_and_get-requires-clause-there
+put_bytes_and_get-requires-clause-there c =
+    settled-there c.args.self.now c.args.parent c.args.name.now c.args.behaviour c.in-Over.number (sym c.in_ok-settle.ensures.ok.1 ∙ c.in-Over.is)

@@ -1,7 +1,7 @@
 use Rattle.std.proofs.Common.{sym, ◌∙◌}
 use Rattle.std.specs.Option.{option_copied}
 use Rattle.gd_item.specs.Refused.{id_number}
-use Rattle.gd_store.proofs.Sounds.{may-move}
+use Rattle.gd_laws.proofs.Sounds.{may-move}
 use Rattle.gd_store.proofs.store.Store.relocate.Goals as goal
 
 pub move_to-requires : goal.move_to-requires

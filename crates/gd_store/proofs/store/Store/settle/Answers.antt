@@ -1,4 +1,4 @@
-use Rattle.gd_store.proofs.Counts.{siblings-few}
+use Rattle.gd_laws.proofs.Counts.{siblings-few}
 use Rattle.gd_store.proofs.store.Store.settle.Goals as goal
 
 pub settle-requires : goal.settle-requires
