@@ -15,6 +15,7 @@ pub mod Orderly
 pub mod Pages
 pub mod Paths
 pub mod PlacedItems
+pub mod Placing
 pub mod Removals
 pub mod Replacing
 pub mod Requests

@@ -3,10 +3,8 @@ pub mod PulledViews
 pub mod FirstPull
 pub mod Looks
 pub mod Compared
-pub mod Below
 pub mod Scanned
 pub mod Finding
-pub mod LeftAlone
 pub mod Undisturbing
 pub mod KeptPullMaps
 pub mod KeptPullTold
@@ -22,7 +20,6 @@ pub mod LastImages
 pub mod Batched
 pub mod Done
 pub mod SyncAlone
-pub mod CountsRose
 pub mod Growth
 pub mod ReceivedImages
 pub mod Going
@@ -34,7 +31,6 @@ pub mod Running
 pub mod SyncsSaid
 pub mod Uncounted
 pub mod Placing
-pub mod Contents
 pub mod SameTrees
 pub mod HadThen
 pub mod LooksFound

@@ -1,23 +1,25 @@
 -- Where this client alone asks the drive: requests that only read leave it as it is, and a file that is there is fetched.
 use Rattle.std.proofs.Common.{◌≡◌, ℕ, ◌+◌, ◌<◌, ◌⊎◌, inl, inr, Bool, true, false, ◌||◌, not, cond, nat_eq, List, [], ◌∷◌, ◌++◌, map, is_some, is_none, Option, Some, None, refl, sym, ap, ◌∙◌, subst, arith}
-use Rattle.std.specs.List.{All, AllByRecursion}
+use Rattle.std.specs.List.{AllByRecursion}
 use Rattle.std.specs.Option.{option_map}
 use Rattle.std.specs.Cmp.Lexicographic.{other_text}
-use Rattle.std.proofs.lemmas.Bool.{eq-eqb, eqb-true, ne_eqb}
+use Rattle.std.proofs.lemmas.Bool.{eq-eqb, ne_eqb}
 use Rattle.std.proofs.lemmas.List.{append-nil}
-use Rattle.std.proofs.lemmas.List.Elements.{All-nil, All-head, All-tail, All-push, All-filter}
 use Rattle.gd_names.specs.Causes.{first_cause}
-use Rattle.gd_item.specs.Answers.{answer, answer_unless, about, found_reply}
+use Rattle.gd_names.proofs.Each.{each, each-first, each-second}
+use Rattle.gd_item.specs.Answers.{answer, answer_unless, about, found_reply, shown}
 use Rattle.gd_item.specs.Ids.{item_id}
-use Rattle.gd_item.specs.Inventory.{Effect, MadeFolder, PutNew, PutOver, Moved, Removed, Inventory, new_drive, made_folder, made_file, with_bytes, with_place, live_at, after, after_all}
+use Rattle.gd_item.specs.Inventory.{Effect, Inventory, live_at}
 use Rattle.gd_item.specs.Nodes.{live_node, node_at, is_some_folder}
 use Rattle.gd_item.specs.Records.{digest_record}
 use Rattle.gd_item.specs.Refusals.{missing, file_refusal}
 use Rattle.gd_item.specs.Refused.{by_store}
 use Rattle.gd_item.specs.Sessions.{State, new_state, held}
+use Rattle.gd_item.specs.Sound.{IsWithin}
 use Rattle.gd_item.specs.Steps.{after_request, is_accepted, after_step, after_steps, state_of, held_by}
 use Rattle.gd_item.specs.Trees.{nodes_of}
 use Rattle.gd_item.specs.Versions.{replaced_bytes, file_version, item_version, version_at}
+use Rattle.gd_item.specs.Written.{IsWritten}
 use Rattle.gd_item.specs.declared.fault.ErrorCode.{ErrorCode}
 use Rattle.gd_item.specs.declared.fault.StoreFault.TheVariants.{NotFound, NotFile}
 use Rattle.gd_item.specs.declared.id.ItemId.{ItemId}
@@ -31,7 +33,8 @@ use Rattle.gd_item.specs.declared.step.Step.{Step}
 use Rattle.gd_item.specs.declared.step.Step.TheVariants.{Ask, Event}
 use Rattle.gd_item.specs.declared.step.Who.TheVariants.{Own, Other}
 use Rattle.gd_item.proofs.LogsGrow.{after_steps-append}
-use Rattle.gd_item.proofs.Pairs.{All-changed}
+use Rattle.gd_laws.proofs.Living.{of-living}
+use Rattle.gd_laws.proofs.Logs.{sound-log}
 use Rattle.od_transfer.specs.Alone.{AreOwnServed, HasFile, is_own_served}
 use Rattle.od_transfer.specs.Asking.{IsSuch, OwnAre, given}
 use Rattle.od_transfer.specs.Explained.{WasHeard, Brought, DeniedThen, IsFetchExplained}
@@ -98,51 +101,16 @@ pub delta_keeps : (old : List Step) (token : Option (List ℕ)) (served heard : 
 delta_keeps old token served heard =
     after_steps-append new_state old (Ask Own (Delta token) served heard ∷ []) ∙ request-keeps (state_of old) (Delta token) served heard refl
 
--- ---- an item has a number above that of the root
-abbrev IsAbove : LiveItem → Type 0
-IsAbove item = 1 < item.number
+-- ---- an item that is there has its number, which is above that of the root
+pub record IsFound (number : ℕ) (item : LiveItem) : Type 0 where
+  pub same : item.number ≡ number
+  pub above : 1 < number
 
-record AreAbove (held : Inventory) : Type 0 where
-  next : 1 < held.next
-  items : All IsAbove held.items
-
-above-after : (held : Inventory) (effect : Effect) → AreAbove held → AreAbove (after held effect)
-above-after held (MadeFolder parent name) above =
-    record { next = omega (arith, above.next); items = All-push IsAbove held.items (made_folder (held.number + 1) held.next parent name) above.items above.next }
-above-after held (PutNew parent name bytes) above =
-    record { next = omega (arith, above.next); items = All-push IsAbove held.items (made_file (held.number + 1) held.next parent name bytes) above.items above.next }
-above-after held (PutOver number bytes) above =
-    record { next = above.next; items = All-changed IsAbove number (with_bytes (held.number + 1) bytes) held.items above.items above.items }
-above-after held (Moved number parent name) above =
-    record { next = above.next; items = All-changed IsAbove number (with_place (held.number + 1) parent name) held.items above.items above.items }
-above-after held (Removed number) above =
-    record { next = above.next; items = All-filter (λ item. not (nat_eq item.number number)) IsAbove held.items above.items }
-
-above-all : (held : Inventory) (effects : List Effect) → AreAbove held → AreAbove (after_all held effects)
-above-all held [] above = above
-above-all held (effect ∷ effects) above = above-all (after held effect) effects (above-after held effect above)
-
-above-log : (log : List Step) → All IsAbove (held_by log).items
-above-log log = (above-all new_drive (state_of log).effects (record { next = omega arith; items = All-nil IsAbove })).items
-
--- an item that is found
-record IsFound (number : ℕ) (item : LiveItem) : Type 0 where
-  same : item.number ≡ number
-  above : 1 < number
-
-found-by : (number : ℕ) (first : LiveItem) (items : List LiveItem) (item : LiveItem) (b : Bool) → 1 < first.number → (live_at number items ≡ Some item → IsFound number item)
-    → nat_eq first.number number ≡ b → cond b (Some first) (live_at number items) ≡ Some item → IsFound number item
-found-by number first items item true above later same is =
-    let number_is : first.number ≡ number = eqb-true first.number number same in
-    let first_is : first ≡ item = cc is in
-    record { same = ap (λ (x : LiveItem). x.number) (sym first_is) ∙ number_is; above = subst (λ n. 1 < n) number_is above }
-found-by number first items item false above later same is = later is
-
-found-live : (number : ℕ) (items : List LiveItem) (item : LiveItem) → All IsAbove items → live_at number items ≡ Some item → IsFound number item
-found-live number [] item above found = absurd (cc found)
-found-live number (first ∷ items) item above found =
-    found-by number first items item (nat_eq first.number number) (All-head IsAbove first items above)
-    (λ later. found-live number items item (All-tail IsAbove first items above) later) refl found
+pub found-item : (log : List Step) (number : ℕ) (item : LiveItem) → live_at number (held_by log).items ≡ Some item → IsFound number item
+found-item log number item there =
+    let held : Inventory = held_by log in
+    let is = of-living (IsWithin held) number held.items item (each (IsWithin held) held.items (sound-log log).within) there in
+    record { same = is.1; above = subst (λ n. 1 < n) is.1 is.0.above }
 
 node_at-live : (number : ℕ) (items : List LiveItem) → node_at number (map live_node items) ≡ option_map live_node (live_at number items)
 node_at-live number [] = refl
@@ -164,11 +132,20 @@ is-file held number item bytes above there bytes_are =
     (ne_eqb number 1 (λ e. omega arith)) (ap (λ found. is_some found) node)
     (ap (λ found. is_some_folder found) node ∙ ap (λ (b : Option (List ℕ)). is_none b) bytes_are)
 
+-- a plain drive and another one say the same of where bytes are, and give the same ones
+shown-found : (plain : Bool) (id : ItemId) (version : ℕ) → shown plain (reply.Found id version) ≡ reply.Found id version
+shown-found true id version = refl
+shown-found false id version = refl
+
+shown-content : (plain : Bool) (bytes : List ℕ) → shown plain (reply.Content bytes) ≡ reply.Content bytes
+shown-content true bytes = refl
+shown-content false bytes = refl
+
 content-answer : (state : State) (size number : ℕ) (item : LiveItem) (bytes : List ℕ) → 1 < number → item.number ≡ number → live_at number (held state).items ≡ Some item → item.bytes ≡ Some bytes
     → answer state size (Content (Id (item_id number))) ≡ reply.Found (item_id number) item.content
 content-answer state size number item bytes above same there bytes_are =
-    ap (λ fault. answer_unless (by_store fault) state size (Content (Id (item_id number)))) (is-file (held state) number item bytes above there bytes_are)
-    ∙ ap (λ found. about found_reply found) there ∙ ap (λ n. reply.Found (item_id n) item.content) same
+    ap (λ fault. shown state.plain (answer_unless (by_store fault) state size (Content (Id (item_id number))))) (is-file (held state) number item bytes above there bytes_are)
+    ∙ ap (λ found. shown state.plain (about found_reply found)) there ∙ shown-found state.plain (item_id item.number) item.content ∙ ap (λ n. reply.Found (item_id n) item.content) same
 
 version-there : (held : Inventory) (number : ℕ) (item : LiveItem) (bytes : List ℕ) → live_at number held.items ≡ Some item → item.bytes ≡ Some bytes → version_at number item.content held ≡ Some bytes
 version-there held number item bytes there bytes_are =
@@ -179,38 +156,37 @@ download-answer : (state : State) (size number : ℕ) (item : LiveItem) (bytes :
     → answer state size (Download (item_id number) item.content) ≡ reply.Content bytes
 download-answer state size number item bytes there bytes_are =
     let version : version_at number item.content (held state) ≡ Some bytes = version-there (held state) number item bytes there bytes_are in
-    ap (λ found. answer_unless (by_store (missing found)) state size (Download (item_id number) item.content)) version ∙ ap (λ found. about reply.Content found) version
+    ap (λ found. shown state.plain (answer_unless (by_store (missing found)) state size (Download (item_id number) item.content))) version ∙ ap (λ found. shown state.plain (about reply.Content found)) version
+    ∙ shown-content state.plain bytes
 
 -- ---- what was heard there
-first-part : (P : Step → Type 0) (first rest : List Step) → AllByRecursion P (first ++ rest) → AllByRecursion P first
-first-part P [] rest all = tt
-first-part P (step ∷ first) rest all = (all.0, first-part P first rest all.1)
-
-last-part : (P : Step → Type 0) (first rest : List Step) → AllByRecursion P (first ++ rest) → AllByRecursion P rest
-last-part P [] rest all = all
-last-part P (step ∷ first) rest all = last-part P first rest all.1
-
-heard-there : (old part : List Step) (request : Request) (r : Reply) → AreOwnServed part → OwnAre IsTransfer part → (h : WasHeard request old part r) → r ≡ answer (state_of old) h.size request
-heard-there old part request r own such h =
+heard-there : (old part : List Step) (request : Request) (r : Reply) → IsWritten request → AreOwnServed part → OwnAre IsTransfer part → (h : WasHeard request old part r)
+    → r ≡ answer (state_of old) h.answers.size request
+heard-there old part request r written own such h =
     let Served : Step → Type 0 = λ step. is_own_served step ≡ true in
-    let all : AreOwnServed (h.before ++ Ask Own request h.served true ∷ h.rest) = subst AreOwnServed h.split own in
-    let are : OwnAre IsTransfer (h.before ++ Ask Own request h.served true ∷ h.rest) = subst (OwnAre IsTransfer) h.split such in
-    let served : h.served ≡ true = (last-part Served h.before (Ask Own request h.served true ∷ h.rest) all).0 in
-    let same : state_of (old ++ h.before) ≡ state_of old =
-    transfers_keep old h.before (first-part Served h.before (Ask Own request h.served true ∷ h.rest) all) (first-part (IsSuch IsTransfer) h.before (Ask Own request h.served true ∷ h.rest) are) in
-    h.reply_is ∙ ap (λ b. given b (old ++ h.before) h.size request) served ∙ ap (λ state. answer state h.size request) same
+    let last : List Step = Ask Own h.sent h.served true ∷ h.rest in
+    let all : AreOwnServed (h.before ++ last) = subst AreOwnServed h.split own in
+    let are : OwnAre IsTransfer (h.before ++ last) = subst (OwnAre IsTransfer) h.split such in
+    let served : h.served ≡ true = (each-second Served h.before last all).0 in
+    let same : state_of (old ++ h.before) ≡ state_of old = transfers_keep old h.before (each-first Served h.before last all) (each-first (IsSuch IsTransfer) h.before last are) in
+    h.answers.reply_is
+    ∙ ap (λ (sent : Request). given h.served (old ++ h.before) h.answers.size sent) (h.answers.sent_as written)
+    ∙ ap (λ b. given b (old ++ h.before) h.answers.size request) served
+    ∙ ap (λ state. answer state h.answers.size request) same
 
 -- ---- the outcomes of a fetch there
 record IsThere (old : List Step) (number : ℕ) (bytes : List ℕ) : Type 0 where
   content : ℕ
+  above : 0 < number
   found : (size : ℕ) → answer (state_of old) size (Content (Id (item_id number))) ≡ reply.Found (item_id number) content
   gives : (size : ℕ) → answer (state_of old) size (Download (item_id number) content) ≡ reply.Content bytes
 
 there-of : (old : List Step) (number : ℕ) (bytes : List ℕ) → HasFile (held_by old) number bytes → IsThere old number bytes
 there-of old number bytes file =
-    let is : IsFound number file.item = found-live number (held_by old).items file.item (above-log old) file.there in
+    let is : IsFound number file.item = found-item old number file.item file.there in
     record {
       content = file.item.content;
+      above = omega (arith, is.above);
       found = λ size. content-answer (state_of old) size number file.item bytes is.above is.same file.there file.bytes_are;
       gives = λ size. download-answer (state_of old) size number file.item bytes file.there file.bytes_are;
     }
@@ -219,43 +195,42 @@ record IsFoundThere (number content : ℕ) (found : ItemId) (version : ℕ) : Ty
   id : found ≡ item_id number
   same : version ≡ content
 
-found-there : (old part : List Step) (number : ℕ) (bytes : List ℕ) (found : ItemId) (version : ℕ) → AreOwnServed part → OwnAre IsTransfer part → (there : IsThere old number bytes)
-    → WasHeard (Content (Id (item_id number))) old part (reply.Found found version) → IsFoundThere number there.content found version
-found-there old part number bytes found version own such there h =
-    let is : reply.Found found version ≡ reply.Found (item_id number) there.content =
-    heard-there old part (Content (Id (item_id number))) (reply.Found found version) own such h ∙ there.found h.size in
-    record { id = cc is; same = cc is }
+module _ (old part : List Step) (number : ℕ) (bytes : List ℕ) (own : AreOwnServed part) (such : OwnAre IsTransfer part) (there : IsThere old number bytes) where
+  found-there : (found : ItemId) (version : ℕ) → WasHeard (Content (Id (item_id number))) old part (reply.Found found version) → IsFoundThere number there.content found version
+  found-there found version h =
+      let is : reply.Found found version ≡ reply.Found (item_id number) there.content =
+      heard-there old part (Content (Id (item_id number))) (reply.Found found version) there.above own such h ∙ there.found h.answers.size in
+      record { id = cc is; same = cc is }
 
-given-there : (old part : List Step) (number : ℕ) (bytes : List ℕ) (found : ItemId) (version : ℕ) (r : Reply) → AreOwnServed part → OwnAre IsTransfer part → (there : IsThere old number bytes)
-    → IsFoundThere number there.content found version → WasHeard (Download found version) old part r → r ≡ reply.Content bytes
-given-there old part number bytes found version r own such there is h =
-    heard-there old part (Download found version) r own such h ∙ ap (λ (id : ItemId). answer (state_of old) h.size (Download id version)) is.id
-    ∙ ap (λ v. answer (state_of old) h.size (Download (item_id number) v)) is.same ∙ there.gives h.size
+  given-there : (found : ItemId) (version : ℕ) (r : Reply) → IsFoundThere number there.content found version → WasHeard (Download found version) old part r → r ≡ reply.Content bytes
+  given-there found version r is h =
+      let written : IsWritten (Download found version) = subst (λ (id : ItemId). 0 < id.0) (sym is.id) there.above in
+      heard-there old part (Download found version) r written own such h ∙ ap (λ (id : ItemId). answer (state_of old) h.answers.size (Download id version)) is.id
+      ∙ ap (λ v. answer (state_of old) h.answers.size (Download (item_id number) v)) is.same ∙ there.gives h.answers.size
 
-brought-there : (old part : List Step) (number : ℕ) (bytes brought : List ℕ) → AreOwnServed part → OwnAre IsTransfer part → IsThere old number bytes → Brought (item_id number) old part brought → brought ≡ bytes
-brought-there old part number bytes brought own such there b =
-    let found = found-there old part number bytes b.found b.version own such there b.said in
-    let is : reply.Content brought ≡ reply.Content bytes = given-there old part number bytes b.found b.version (reply.Content brought) own such there found b.gave in
-    cc is
+  brought-there : (brought : List ℕ) → Brought (item_id number) old part brought → brought ≡ bytes
+  brought-there brought b =
+      let found = found-there b.found b.version b.said in
+      let is : reply.Content brought ≡ reply.Content bytes = given-there b.found b.version (reply.Content brought) found b.gave in
+      cc is
 
-refused-there : (old part : List Step) (number : ℕ) (bytes : List ℕ) (status : ℕ) (code : ErrorCode) → AreOwnServed part → OwnAre IsTransfer part → IsThere old number bytes
-    → WasHeard (Content (Id (item_id number))) old part (reply.Refused status code) ⊎ DeniedThen (item_id number) old part status code → ⊥
-refused-there old part number bytes status code own such there (inl h) =
-    let is : reply.Refused status code ≡ reply.Found (item_id number) there.content =
-    heard-there old part (Content (Id (item_id number))) (reply.Refused status code) own such h ∙ there.found h.size in
-    cc is
-refused-there old part number bytes status code own such there (inr d) =
-    let found = found-there old part number bytes d.found d.version own such there d.said in
-    let is : reply.Refused status code ≡ reply.Content bytes = given-there old part number bytes d.found d.version (reply.Refused status code) own such there found d.refused in
-    cc is
+  refused-there : (status : ℕ) (code : ErrorCode) → WasHeard (Content (Id (item_id number))) old part (reply.Refused status code) ⊎ DeniedThen (item_id number) old part status code → ⊥
+  refused-there status code (inl h) =
+      let is : reply.Refused status code ≡ reply.Found (item_id number) there.content =
+      heard-there old part (Content (Id (item_id number))) (reply.Refused status code) there.above own such h ∙ there.found h.answers.size in
+      cc is
+  refused-there status code (inr d) =
+      let found = found-there d.found d.version d.said in
+      let is : reply.Refused status code ≡ reply.Content bytes = given-there d.found d.version (reply.Refused status code) found d.refused in
+      cc is
 
 pub fetched_there : (old part : List Step) (number : ℕ) (bytes : List ℕ) (outcome : Outcome) → AreOwnServed part → OwnAre IsTransfer part
     → HasFile (held_by old) number bytes → IsFetchExplained old part (item_id number) (digest_record bytes) outcome → is_lost outcome ≡ false → outcome ≡ Fetched bytes
 fetched_there old part number bytes (Fetched brought) own such file explained lost =
-    ap (λ b. Fetched b) (brought-there old part number bytes brought own such (there-of old number bytes file) explained)
+    ap (λ b. Fetched b) (brought-there old part number bytes own such (there-of old number bytes file) brought explained)
 fetched_there old part number bytes Changed own such file explained lost =
-    let same = brought-there old part number bytes explained.bytes own such (there-of old number bytes file) explained.brought in
+    let same = brought-there old part number bytes own such (there-of old number bytes file) explained.bytes explained.brought in
     absurd (other_text (digest_record explained.bytes).0 (digest_record bytes).0 (sym explained.others) (ap (λ b. (digest_record b).0) same))
 fetched_there old part number bytes (Refused code) own such file explained lost =
-    absurd (refused-there old part number bytes explained.status code own such (there-of old number bytes file) explained.denied)
+    absurd (refused-there old part number bytes own such (there-of old number bytes file) explained.status code explained.denied)
 fetched_there old part number bytes Lost own such file explained lost = absurd (cc lost)

@@ -1,7 +1,9 @@
 pub mod Alone
 pub mod Bounds
+pub mod CountsRose
 pub mod Explaining
 pub mod Fetches
+pub mod Jobs
 pub mod Logs
 pub mod Repeats
 pub mod Undisturbing

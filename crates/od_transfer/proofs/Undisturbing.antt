@@ -1,26 +1,21 @@
 -- A drive that no one else asks stays so over one request after another, and what may be served once may be served again.
-use Rattle.std.proofs.Common.{◌≡◌, ℕ, Bool, true, List, [], ◌∷◌, ◌++◌, Option, Some, None, Err, refl, ap, sym, ◌∙◌, subst, append_assoc}
-use Rattle.std.specs.List.{AllByRecursion}
+use Rattle.std.proofs.Common.{◌≡◌, ℕ, Bool, true, false, ◌&&◌, List, [], ◌∷◌, ◌++◌, Option, Some, None, Ok, Err, refl, ap, sym, ◌∙◌, subst, append_assoc}
+use Rattle.std.proofs.lemmas.Bool.{and_parts}
 use Rattle.std.proofs.lemmas.List.{append-nil, append_cancel_left}
-use Rattle.gd_item.specs.Pages.{asked}
-use Rattle.gd_item.specs.Steps.{state_of}
+use Rattle.gd_names.proofs.Each.{each-append}
 use Rattle.gd_item.specs.declared.request.Request.{Request}
-use Rattle.gd_item.specs.declared.request.Request.TheVariants.{Content, Download, Delta}
+use Rattle.gd_item.specs.declared.request.Request.TheVariants.{Content, Download}
 use Rattle.gd_item.specs.declared.step.Step.{Step}
-use Rattle.od_transfer.specs.Alone.{AreOwnServed, is_own_heard, is_own_served}
-use Rattle.od_transfer.specs.Asking.{OwnAre, Grown, AsksAgain, IsUnheard}
+use Rattle.gd_item.specs.declared.step.Step.TheVariants.{Ask, Event}
+use Rattle.gd_item.specs.declared.step.Who.TheVariants.{Own, Other}
+use Rattle.od_transfer.specs.Alone.{AreOwnHeard, is_own_heard, is_own_served}
+use Rattle.od_transfer.specs.Asking.{IsSuch, OwnAre, AsksAgain, IsUnheard, Tried}
 use Rattle.od_transfer.specs.Fits.{is_transfer}
-use Rattle.gd_laws.specs.Served.{is_page}
-use Rattle.od_transfer.specs.Undisturbed.{Undisturbed, GrowsByOwn, MayBeServed, is_servable}
+use Rattle.od_transfer.specs.Undisturbed.{Undisturbed, GrowsByOwn, MayBeServed}
 use Rattle.od_transfer.specs.declared.remote.AskFault.{AskFault}
-use Rattle.od_transfer.proofs.Alone.{IsReading, is_reading, reading_keeps}
-use Rattle.od_transfer.proofs.Logs.{such-also}
+use Rattle.od_transfer.specs.declared.remote.AskFault.TheVariants.{Failed}
 
 -- no request, and one after another
-each-append : (Such : Step → Type 0) (steps more : List Step) → AllByRecursion Such steps → AllByRecursion Such more → AllByRecursion Such (steps ++ more)
-each-append Such [] more first second = second
-each-append Such (step ∷ steps) more first second = (first.0, each-append Such steps more first.1 second)
-
 pub undisturbed_same : (undisturbed : Bool) (log : Option (List Step)) → Undisturbed undisturbed undisturbed log log
 undisturbed_same undisturbed log = record {
   stays = λ is. is;
@@ -45,42 +40,38 @@ undisturbed_then first second third before middle after one next = record {
   untold = λ is none. next.untold (one.stays is) (one.untold is none);
 }
 
--- a request that was sent before leaves it as it was whether it may be served
-servable-then : (request : Request) (old part : List Step) → AreOwnServed part → OwnAre (λ sent served heard. sent ≡ request) part → is_servable (state_of old) request ≡ true → is_servable (state_of (old ++ part)) request ≡ true
-servable-then (Delta token) old part own such may =
-    ap (λ state. is_page (asked state token))
-    (reading_keeps old part own (such-also (λ sent served heard. sent ≡ Delta token) IsReading (λ sent served heard same. ap (λ r. is_reading r) same) part such)) ∙ may
-servable-then (Content at) old part own such may = refl
-servable-then (Download id version) old part own such may = refl
-servable-then request old part own such may = absurd (cc may)
+-- ---- where each request is heard, one that is not heard is no step
+no-step : (request : Request) (step : Step) → is_own_heard step ≡ true → IsSuch (IsUnheard request) step → ⊥
+no-step request (Ask Own sent served heard) own unheard = absurd (cc (sym (and_parts served heard own).1 ∙ unheard.1))
+no-step request (Ask Other sent served heard) own unheard = absurd (cc own)
+no-step request (Event event) own unheard = absurd (cc own)
 
-servable-told : (request : Request) (old now : List Step) (after : Option (List Step)) → GrowsByOwn old after → Grown (λ sent served heard. sent ≡ request) old after → after ≡ Some now
-    → is_servable (state_of old) request ≡ true → is_servable (state_of now) request ≡ true
-servable-told request old now after own sent is may =
-    let now_is : old ++ own.part ≡ now = cc (own.grown, is) in
-    let both : old ++ sent.part ≡ old ++ own.part = cc (sent.grown, own.grown) in
-    let same : sent.part ≡ own.part = append_cancel_left old sent.part own.part both in
-    subst (λ log. is_servable (state_of log) request ≡ true) now_is
-    (servable-then request old own.part own.own (subst (OwnAre (λ sent served heard. sent ≡ request)) same sent.such) may)
+no-steps : (request : Request) (steps : List Step) → AreOwnHeard steps → OwnAre (IsUnheard request) steps → steps ≡ []
+no-steps request [] own unheard = refl
+no-steps request (step ∷ steps) own unheard = absurd (no-step request step own.0 unheard.0)
 
--- the same where the log is told or not
-pub served_again : (request : Request) (first second : Bool) (before after : Option (List Step)) → first ≡ true → Undisturbed first second before after
-    → ((old : List Step) → before ≡ Some old → Grown (λ sent served heard. sent ≡ request) old after) → MayBeServed request before → MayBeServed request after
-served_again request first second None after quiet undisturbed sent may = λ now is. absurd (cc (undisturbed.untold quiet refl, is))
-served_again request first second (Some old) after quiet undisturbed sent may =
-    λ now is. servable-told request old now after (undisturbed.alone quiet old refl) (sent old refl) is (may old refl)
+same-log : (n : ℕ) (request : Request) (old : List Step) (after : Option (List Step)) → GrowsByOwn old after → Tried n request old after → after ≡ Some old
+same-log n request old after own tried =
+    let both : old ++ tried.part ≡ old ++ own.part = cc (tried.grown, own.grown) in
+    let same : tried.part ≡ own.part = append_cancel_left old tried.part own.part both in
+    let none : own.part ≡ [] = no-steps request own.part own.heard (subst (OwnAre (IsUnheard request)) same tried.tries.such) in
+    own.grown ∙ ap (λ (part : List Step). Some (old ++ part)) none ∙ ap (λ (log : List Step). Some log) (append-nil old)
+
+-- so what may be served before may be served after, where the log is told or not
+served-still : (n : ℕ) (request : Request) (first second : Bool) (before after : Option (List Step)) → first ≡ true → Undisturbed first second before after
+    → ((old : List Step) → before ≡ Some old → Tried n request old after) → MayBeServed request before → MayBeServed request after
+served-still n request first second None after quiet undisturbed tried may = λ now is. absurd (cc (undisturbed.untold quiet refl, is))
+served-still n request first second (Some old) after quiet undisturbed tried may =
+    let same = same-log n request old after (undisturbed.alone quiet old refl) (tried old refl) in
+    λ now is. may now (sym same ∙ is)
 
 -- a request that is sent again because no reply came
-unheard-sent : (request : Request) (old : List Step) (after : Option (List Step)) → Grown (IsUnheard request) old after → Grown (λ sent served heard. sent ≡ request) old after
-unheard-sent request old after g =
-    record { part = g.part; such = such-also (IsUnheard request) (λ sent served heard. sent ≡ request) (λ sent served heard unheard. unheard.0) g.part g.such; grown = g.grown }
-
-pub no_faults-again : (request : Request) (fault : AskFault) (first second : Bool) (before middle : Option (List Step)) (faults_first faults_second faults_third : ℕ)
-    → Undisturbed first second before middle → AsksAgain request before middle (Err fault) → (first ≡ true → MayBeServed request before → faults_second ≡ faults_first)
+pub no_faults-again : (request : Request) {fault : AskFault} {first second : Bool} {before middle : Option (List Step)} {faults_first faults_second faults_third : ℕ}
+    → fault ≡ Failed → Undisturbed first second before middle → AsksAgain 0 request before middle (Err fault) → (first ≡ true → MayBeServed request before → faults_second ≡ faults_first)
     → (second ≡ true → MayBeServed request middle → faults_third ≡ faults_second) → first ≡ true → MayBeServed request before → faults_third ≡ faults_first
-no_faults-again request fault first second before middle faults_first faults_second faults_third undisturbed asks once again quiet may =
-    again (undisturbed.stays quiet) (served_again request first second before middle quiet undisturbed (λ old told. unheard-sent request old middle (asks.err old told)) may)
-    ∙ once quiet may
+no_faults-again request {fault} {first} {second} {before} {middle} failed undisturbed asks once again quiet may =
+    let unheard = subst (λ (f : AskFault). AsksAgain 0 request before middle (Err f)) failed asks in
+    again (undisturbed.stays quiet) (served-still 1 request first second before middle quiet undisturbed (unheard.failed refl) may) ∙ once quiet may
 
 -- a request of a transfer may always be served
 pub transfer-served : (request : Request) (log : Option (List Step)) → is_transfer request ≡ true → MayBeServed request log

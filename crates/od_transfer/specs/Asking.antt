@@ -1,11 +1,12 @@
 -- What a request does to the log of the drive that it is sent to, where that is told: others come before it, and then the
 -- drive answers it, or it is lost on its way there or back.
-use Rattle.std.specs.Prelude.{◌≡◌, ◌⊎◌, ℕ, ◌+◌, ◌-◌, ◌^◌, ◌≤◌, min, Bool, true, false, ◌&&◌, ◌||◌, nat_eq, cond, List, [], ◌∷◌, ◌++◌, Option, Some, Result, IfOk, OnOk, OnErr, IsErrOf}
+use Rattle.std.specs.Prelude.{◌≡◌, ◌⊎◌, ℕ, ◌+◌, ◌-◌, ◌^◌, ◌≤◌, min, Bool, true, false, ◌&&◌, ◌||◌, nat_eq, count_by, List, [], ◌∷◌, ◌++◌, Option, Some, Result, IfOk, OnOk, IsErrOf}
 use Rattle.std.specs.List.{AllByRecursion}
 use Rattle.gd_names.specs.Streams.{Rose}
-use Rattle.gd_item.specs.Answers.{answer_of, unserved}
-use Rattle.gd_item.specs.declared.fault.ErrorCode.{ErrorCode}
-use Rattle.gd_item.specs.declared.fault.ErrorCode.TheVariants as code
+use Rattle.gd_item.specs.Answers.{answer_served}
+use Rattle.gd_item.specs.Replies.{has_status}
+use Rattle.gd_item.specs.Steps.{state_of}
+use Rattle.gd_item.specs.Written.{IsWritten}
 use Rattle.gd_item.specs.declared.reply.PageLink.{PageLink}
 use Rattle.gd_item.specs.declared.reply.PageLink.TheVariants as link
 use Rattle.gd_item.specs.declared.reply.Reply.{Reply}
@@ -16,7 +17,7 @@ use Rattle.gd_item.specs.declared.step.Step.{Step}
 use Rattle.gd_item.specs.declared.step.Step.TheVariants.{Ask, Event}
 use Rattle.gd_item.specs.declared.step.Who.TheVariants.{Own, Other}
 use Rattle.od_transfer.specs.declared.remote.AskFault.{AskFault}
-use Rattle.od_transfer.specs.declared.remote.AskFault.TheVariants.{Failed}
+use Rattle.od_transfer.specs.declared.remote.AskFault.TheVariants.{Failed, Memory}
 
 -- whether requests of this client are such, of what is said of the request, whether it was served, and whether it was heard
 abbrev pub IsSuch : (Request → Bool → Bool → Type 0) → Step → Type 0
@@ -34,6 +35,15 @@ Never request served heard = ⊥
 abbrev pub ByOthers : List Step → Type 0
 ByOthers steps = OwnAre Never steps
 
+-- how many requests of this client there are
+abbrev pub is_own_request : Step → Bool
+is_own_request (Ask Own request served heard) = true
+is_own_request (Ask Other request served heard) = false
+is_own_request (Event event) = false
+
+abbrev pub own_requests : List Step → ℕ
+own_requests steps = count_by is_own_request steps
+
 -- the log grows by steps of others, and by requests of this client that are such
 pub record Grown (Such : Request → Bool → Bool → Type 0) (old : List Step) (after : Option (List Step)) : Type 0 where
   pub part : List Step
@@ -43,55 +53,81 @@ pub record Grown (Such : Request → Bool → Bool → Type 0) (old : List Step)
 pub record Grows (Such : Request → Bool → Bool → Type 0) (before after : Option (List Step)) : Type 0 where
   pub told : (old : List Step) → before ≡ Some old → Grown Such old after
 
+-- a request comes to the drive as itself where it has a written form, and may else come as another
+abbrev pub IsSentAs : Request → Request → Type 0
+IsSentAs request sent = IsWritten request → sent ≡ request
+
 -- what a drive answers that may lack memory
 abbrev pub given : Bool → List Step → ℕ → Request → Reply
-given served log size request = cond served (answer_of log size request) unserved
+given served log size request = answer_served served (state_of log) size request
 
--- a request that was heard, after steps of others and such ones of this client: what the drive answered there
-pub record Heard (Such : Request → Bool → Bool → Type 0) (request : Request) (old : List Step) (after : Option (List Step)) (reply : Reply) : Type 0 where
-  pub part : List Step
-  pub such : OwnAre Such part
-  pub served : Bool
+-- a reply is the drive's, at a log, to what a request came as. A page has from 1 to 200 items at most. The drive is not
+-- plain: no told drive is made so as long as clients learn no digests
+pub record Answers (request sent : Request) (served : Bool) (log : List Step) (reply : Reply) : Type 0 where
+  pub sent_as : IsSentAs request sent
   pub size : ℕ
-  pub grown : after ≡ Some ((old ++ part) ++ Ask Own request served true ∷ [])
-  pub reply_is : reply ≡ given served (old ++ part) size request
+  pub some : 1 ≤ size
+  pub most : size ≤ 200
+  pub not_plain : (state_of log).plain ≡ false
+  pub reply_is : reply ≡ given served log size sent
+
+-- a request that was heard, after such steps: what the drive answered there
+pub record Heard (Before : List Step → Type 0) (request : Request) (old : List Step) (after : Option (List Step)) (reply : Reply) : Type 0 where
+  pub part : List Step
+  pub such : Before part
+  pub sent : Request
+  pub served : Bool
+  pub grown : after ≡ Some ((old ++ part) ++ Ask Own sent served true ∷ [])
+  pub answers : Answers request sent served (old ++ part) reply
+
+-- a request stands last in the log
+pub record StandsLast (request : Request) (heard : Bool) (log : List Step) (after : Option (List Step)) : Type 0 where
+  pub sent : Request
+  pub sent_as : IsSentAs request sent
+  pub served : Bool
+  pub grown : after ≡ Some (log ++ Ask Own sent served heard ∷ [])
 
 -- a request that was not heard stands in the log or does not
 pub record Unheard (request : Request) (old : List Step) (after : Option (List Step)) : Type 0 where
   pub others : List Step
   pub by_others : ByOthers others
-  pub grown : (after ≡ Some (old ++ others)) ⊎ ((served : Bool) × (after ≡ Some ((old ++ others) ++ Ask Own request served false ∷ [])))
+  pub grown : (after ≡ Some (old ++ others)) ⊎ StandsLast request false (old ++ others) after
+
+-- memory was wanting: after such steps the request stands in the log, heard or not, or does not
+pub record Abandoned (Before : List Step → Type 0) (request : Request) (old : List Step) (after : Option (List Step)) : Type 0 where
+  pub part : List Step
+  pub such : Before part
+  pub grown : (after ≡ Some (old ++ part)) ⊎ ((heard : Bool) × StandsLast request heard (old ++ part) after)
 
 -- what a request does to the log where it is told
 pub record Asks (request : Request) (before after : Option (List Step)) (result : Result Reply AskFault) : Type 0 where
-  pub ok : IfOk result (λ reply. (old : List Step) → before ≡ Some old → Heard Never request old after reply)
-  pub err : OnErr result ((old : List Step) → before ≡ Some old → Unheard request old after)
+  pub ok : IfOk result (λ reply. (old : List Step) → before ≡ Some old → Heard ByOthers request old after reply)
+  pub failed : IsErrOf result Failed → (old : List Step) → before ≡ Some old → Unheard request old after
+  pub memory : IsErrOf result Memory → (old : List Step) → before ≡ Some old → Abandoned ByOthers request old after
 
--- the same of a request that was sent again as long as it was not heard
+-- steps of others, and so many sends at most of a request that was not heard
 abbrev pub IsUnheard : Request → Request → Bool → Bool → Type 0
-IsUnheard request sent served heard = (sent ≡ request) × (heard ≡ false)
+IsUnheard request sent served heard = IsSentAs request sent × (heard ≡ false)
 
-pub record AsksAgain (request : Request) (before after : Option (List Step)) (result : Result Reply AskFault) : Type 0 where
-  pub ok : IfOk result (λ reply. (old : List Step) → before ≡ Some old → Heard (IsUnheard request) request old after reply)
-  pub err : OnErr result ((old : List Step) → before ≡ Some old → Grown (IsUnheard request) old after)
+pub record Tries (most : ℕ) (request : Request) (part : List Step) : Type 0 where
+  pub such : OwnAre (IsUnheard request) part
+  pub few : own_requests part ≤ most
+
+pub record Tried (most : ℕ) (request : Request) (old : List Step) (after : Option (List Step)) : Type 0 where
+  pub part : List Step
+  pub tries : Tries most request part
+  pub grown : after ≡ Some (old ++ part)
+
+-- the same of a request that is sent again as long as it is not heard, so many times at most
+pub record AsksAgain (again : ℕ) (request : Request) (before after : Option (List Step)) (result : Result Reply AskFault) : Type 0 where
+  pub ok : IfOk result (λ reply. (old : List Step) → before ≡ Some old → Heard (Tries again request) request old after reply)
+  pub failed : IsErrOf result Failed → (old : List Step) → before ≡ Some old → Tried (again + 1) request old after
+  pub memory : IsErrOf result Memory → (old : List Step) → before ≡ Some old → Abandoned (Tries again request) request old after
 
 -- whether a page is the last one
 abbrev pub is_last_link : PageLink → Bool
 is_last_link (link.Next token) = false
 is_last_link (link.Delta token) = true
-
--- whether a refusal with this code has this status
-abbrev pub has_status : ErrorCode → ℕ → Bool
-has_status code.InvalidRequest status = nat_eq status 400 || nat_eq status 413
-has_status code.InvalidRange status = nat_eq status 400 || nat_eq status 416
-has_status code.ItemNotFound status = nat_eq status 404
-has_status code.NotSupported status = nat_eq status 405 || nat_eq status 501
-has_status code.NameAlreadyExists status = nat_eq status 409
-has_status code.ResyncChangesApplyDifferences status = nat_eq status 410
-has_status code.ResyncChangesUploadDifferences status = nat_eq status 410
-has_status code.ResourceModified status = nat_eq status 412
-has_status code.GeneralException status = nat_eq status 503
-has_status code.QuotaLimitReached status = nat_eq status 507
 
 -- whether a reply may come to a Delta: a last page, or that the drive lacks memory
 abbrev pub may_answer_delta : Reply → Bool

@@ -4,6 +4,7 @@ use Rattle.std.specs.List.{count_by}
 use Rattle.std.specs.Cmp.Lexicographic.{pointwise}
 use Rattle.gd_names.specs.Streams.{Rose}
 use Rattle.gd_item.specs.Records.{digest_record}
+use Rattle.gd_item.specs.Written.{IsWrittenId}
 use Rattle.gd_item.specs.declared.digest.Digest.{Digest}
 use Rattle.gd_item.specs.declared.fault.ErrorCode.{ErrorCode}
 use Rattle.gd_item.specs.declared.id.ItemId.{ItemId}
@@ -27,7 +28,11 @@ HasDigest digest Lost = Unit {0}
 abbrev pub Fits : Job → Outcome → Type 0
 Fits (Fetch id digest size) outcome = HasDigest digest outcome
 
--- the requests of a fetch
+-- a job whose requests have a written form
+abbrev pub IsWrittenJob : Job → Type 0
+IsWrittenJob (Fetch id digest size) = IsWrittenId id
+
+-- the kinds of request that fetches ask
 abbrev pub is_transfer : Request → Bool
 is_transfer (Content at) = true
 is_transfer (Download id version) = true

@@ -9,7 +9,7 @@ use Rattle.gd_item.specs.declared.step.Step.{Step}
 use Rattle.gd_laws.specs.Served.{is_served_token}
 use Rattle.od_transfer.specs.Alone.{AreOwnHeard, AreOwnServed}
 
--- whether a request is one of a fetch, or one for changes since a token that is served
+-- whether a request always has a reply: one for changes since a token that is served, and those of fetches
 abbrev pub is_servable : State → Request → Bool
 is_servable state (Delta token) = is_served_token state token
 is_servable state (Content at) = true

@@ -7,11 +7,12 @@ use gd_item::{Reply, Request};
 use std::alloc::Global;
 
 fn ask_once<R: Remote>(remote: &mut R, alloc: Global, request: &Request) -> Result<Reply, AskFault>
-    ensures log { AsksAgain request.now (R.log remote.old) (R.log remote.new) result }
+    ensures log { AsksAgain 0 request.now (R.log remote.old) (R.log remote.new) result }
     ensures kind { IfOk result (λ reply. may_answer request.now reply ≡ true) }
     ensures cause { HasCauseBy 1 (R.faults remote.old) (R.faults remote.new) (R.answers remote.old) (R.answers remote.new) (R.in_row remote.old) (R.in_row remote.new) result }
     ensures undisturbed { Undisturbed (R.undisturbed remote.old) (R.undisturbed remote.new) (R.log remote.old) (R.log remote.new) }
     ensures no_faults { R.undisturbed remote.old ≡ true → MayBeServed request.now (R.log remote.old) → R.faults remote.new ≡ R.faults remote.old }
+    ensures goes { R.goes remote.old remote.new }
 {
     match remote.ask(alloc, request) {
         Ok(reply) => Ok(reply),
@@ -20,11 +21,12 @@ fn ask_once<R: Remote>(remote: &mut R, alloc: Global, request: &Request) -> Resu
 }
 
 fn ask_twice<R: Remote>(remote: &mut R, alloc: Global, request: &Request) -> Result<Reply, AskFault>
-    ensures log { AsksAgain request.now (R.log remote.old) (R.log remote.new) result }
+    ensures log { AsksAgain 1 request.now (R.log remote.old) (R.log remote.new) result }
     ensures kind { IfOk result (λ reply. may_answer request.now reply ≡ true) }
     ensures cause { HasCauseBy 2 (R.faults remote.old) (R.faults remote.new) (R.answers remote.old) (R.answers remote.new) (R.in_row remote.old) (R.in_row remote.new) result }
     ensures undisturbed { Undisturbed (R.undisturbed remote.old) (R.undisturbed remote.new) (R.log remote.old) (R.log remote.new) }
     ensures no_faults { R.undisturbed remote.old ≡ true → MayBeServed request.now (R.log remote.old) → R.faults remote.new ≡ R.faults remote.old }
+    ensures goes { R.goes remote.old remote.new }
 {
     match ask_once(remote, alloc, request) {
         Ok(reply) => Ok(reply),
@@ -42,11 +44,12 @@ pub fn ask_thrice<R: Remote>(
     alloc: Global,
     request: &Request,
 ) -> Result<Reply, AskFault>
-    ensures log { AsksAgain request.now (R.log remote.old) (R.log remote.new) result }
+    ensures log { AsksAgain 2 request.now (R.log remote.old) (R.log remote.new) result }
     ensures kind { IfOk result (λ reply. may_answer request.now reply ≡ true) }
     ensures cause { HasCauseBy 3 (R.faults remote.old) (R.faults remote.new) (R.answers remote.old) (R.answers remote.new) (R.in_row remote.old) (R.in_row remote.new) result }
     ensures undisturbed { Undisturbed (R.undisturbed remote.old) (R.undisturbed remote.new) (R.log remote.old) (R.log remote.new) }
     ensures no_faults { R.undisturbed remote.old ≡ true → MayBeServed request.now (R.log remote.old) → R.faults remote.new ≡ R.faults remote.old }
+    ensures goes { R.goes remote.old remote.new }
 {
     match ask_once(remote, alloc, request) {
         Ok(reply) => Ok(reply),
@@ -64,11 +67,12 @@ pub fn send_thrice<R: Remote>(
     alloc: Global,
     request: Request,
 ) -> Result<Reply, AskFault>
-    ensures log { AsksAgain request (R.log remote.old) (R.log remote.new) result }
+    ensures log { AsksAgain 2 request (R.log remote.old) (R.log remote.new) result }
     ensures kind { IfOk result (λ reply. may_answer request reply ≡ true) }
     ensures cause { HasCauseBy 3 (R.faults remote.old) (R.faults remote.new) (R.answers remote.old) (R.answers remote.new) (R.in_row remote.old) (R.in_row remote.new) result }
     ensures undisturbed { Undisturbed (R.undisturbed remote.old) (R.undisturbed remote.new) (R.log remote.old) (R.log remote.new) }
     ensures no_faults { R.undisturbed remote.old ≡ true → MayBeServed request (R.log remote.old) → R.faults remote.new ≡ R.faults remote.old }
+    ensures goes { R.goes remote.old remote.new }
 {
     ask_thrice(remote, alloc, &request)
 }

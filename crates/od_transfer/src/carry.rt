@@ -1,9 +1,9 @@
 ghost use Rattle.std.specs.Prelude.{◌≡◌, true, Some, IfOk};
 ghost use Rattle.std.specs.List.{AllZip};
-ghost use Rattle.od_transfer.specs.Asking.{Grows, may_answer_content, may_answer_download};
-ghost use Rattle.od_transfer.specs.Explained.{Carries, GrowsSo, IsDownloadExplained, IsFetchExplained, IsExplained};
+ghost use Rattle.od_transfer.specs.Asking.{may_answer_content, may_answer_download};
+ghost use Rattle.od_transfer.specs.Explained.{Carries, GrowsSo, IsSendOf, IsOfFetch, IsOfJob, IsDownloadExplained, IsFetchExplained, IsExplained};
 ghost use Rattle.od_transfer.specs.Undisturbed.{Undisturbed};
-ghost use Rattle.od_transfer.specs.Fits.{Fits, HasDigest, IsTransfer, HasFetchCause, HasCarryCause, fetched, content_in, found_in, downloaded};
+ghost use Rattle.od_transfer.specs.Fits.{Fits, HasDigest, HasFetchCause, HasCarryCause, fetched, content_in, found_in, downloaded};
 
 use crate::again::send_thrice;
 use crate::job::{Job, Outcome};
@@ -17,11 +17,11 @@ pub trait Carrier: Remote {
     /// One outcome for each job, in their order.
     fn carry(&mut self, alloc: Global, jobs: &List<Job>) -> Result<List<Outcome>, NoMemory>
         ensures fits { IfOk result (λ outcomes. AllZip Fits jobs.now outcomes) }
-        ensures log { Grows IsTransfer (Self.log self.old) (Self.log self.new) }
-        ensures explained { IfOk result (λ outcomes. Carries jobs.now (Self.log self.old) (Self.log self.new) outcomes) }
+        ensures told { Carries jobs.now (Self.log self.old) (Self.log self.new) result }
         ensures cause { HasCarryCause (Self.faults self.old) (Self.faults self.new) (Self.answers self.old) (Self.answers self.new) result }
         ensures undisturbed { Undisturbed (Self.undisturbed self.old) (Self.undisturbed self.new) (Self.log self.old) (Self.log self.new) }
-        ensures no_faults { Self.undisturbed self.old ≡ true → Self.faults self.new ≡ Self.faults self.old };
+        ensures no_faults { Self.undisturbed self.old ≡ true → Self.faults self.new ≡ Self.faults self.old }
+        ensures goes { Self.goes self.old self.new };
 }
 
 /// What comes of a fetch with these bytes.
@@ -78,11 +78,11 @@ fn download<R: Remote>(
     digest: Digest,
 ) -> Result<Outcome, NoMemory>
     ensures fits { IfOk result (λ outcome. HasDigest digest outcome) }
-    ensures log { Grows IsTransfer (R.log remote.old) (R.log remote.new) }
-    ensures explained { IfOk result (λ outcome. GrowsSo (λ log part. IsDownloadExplained log part id version digest outcome) (R.log remote.old) (R.log remote.new)) }
+    ensures told { GrowsSo (IsSendOf (Request.Download id version)) (λ old part. IfOk result (λ outcome. IsDownloadExplained old part id version digest outcome)) (R.log remote.old) (R.log remote.new) }
     ensures cause { HasFetchCause (R.faults remote.old) (R.faults remote.new) (R.answers remote.old) (R.answers remote.new) result }
     ensures undisturbed { Undisturbed (R.undisturbed remote.old) (R.undisturbed remote.new) (R.log remote.old) (R.log remote.new) }
     ensures no_faults { R.undisturbed remote.old ≡ true → R.faults remote.new ≡ R.faults remote.old }
+    ensures goes { R.goes remote.old remote.new }
 {
     match send_thrice(remote, alloc, Request::Download { id, version }) {
         Ok(reply) => Ok(downloaded(reply, digest)),
@@ -98,11 +98,11 @@ fn fetch<R: Remote>(
     digest: Digest,
 ) -> Result<Outcome, NoMemory>
     ensures fits { IfOk result (λ outcome. HasDigest digest outcome) }
-    ensures log { Grows IsTransfer (R.log remote.old) (R.log remote.new) }
-    ensures explained { IfOk result (λ outcome. GrowsSo (λ log part. IsFetchExplained log part id digest outcome) (R.log remote.old) (R.log remote.new)) }
+    ensures told { GrowsSo (IsOfFetch id) (λ old part. IfOk result (λ outcome. IsFetchExplained old part id digest outcome)) (R.log remote.old) (R.log remote.new) }
     ensures cause { HasFetchCause (R.faults remote.old) (R.faults remote.new) (R.answers remote.old) (R.answers remote.new) result }
     ensures undisturbed { Undisturbed (R.undisturbed remote.old) (R.undisturbed remote.new) (R.log remote.old) (R.log remote.new) }
     ensures no_faults { R.undisturbed remote.old ≡ true → R.faults remote.new ≡ R.faults remote.old }
+    ensures goes { R.goes remote.old remote.new }
 {
     let reply = match send_thrice(
         remote,
@@ -123,11 +123,11 @@ fn fetch<R: Remote>(
 
 fn carry_one<R: Remote>(remote: &mut R, alloc: Global, job: &Job) -> Result<Outcome, NoMemory>
     ensures fits { IfOk result (λ outcome. Fits job.now outcome) }
-    ensures log { Grows IsTransfer (R.log remote.old) (R.log remote.new) }
-    ensures explained { IfOk result (λ outcome. GrowsSo (λ log part. IsExplained log part job.now outcome) (R.log remote.old) (R.log remote.new)) }
+    ensures told { GrowsSo (IsOfJob job.now) (λ old part. IfOk result (λ outcome. IsExplained old part job.now outcome)) (R.log remote.old) (R.log remote.new) }
     ensures cause { HasFetchCause (R.faults remote.old) (R.faults remote.new) (R.answers remote.old) (R.answers remote.new) result }
     ensures undisturbed { Undisturbed (R.undisturbed remote.old) (R.undisturbed remote.new) (R.log remote.old) (R.log remote.new) }
     ensures no_faults { R.undisturbed remote.old ≡ true → R.faults remote.new ≡ R.faults remote.old }
+    ensures goes { R.goes remote.old remote.new }
 {
     match job {
         Job::Fetch {
@@ -145,11 +145,11 @@ pub fn carry_each<R: Remote>(
     jobs: &List<Job>,
 ) -> Result<List<Outcome>, NoMemory>
     ensures fits { IfOk result (λ outcomes. AllZip Fits jobs.now outcomes) }
-    ensures log { Grows IsTransfer (R.log remote.old) (R.log remote.new) }
-    ensures explained { IfOk result (λ outcomes. Carries jobs.now (R.log remote.old) (R.log remote.new) outcomes) }
+    ensures told { Carries jobs.now (R.log remote.old) (R.log remote.new) result }
     ensures cause { HasCarryCause (R.faults remote.old) (R.faults remote.new) (R.answers remote.old) (R.answers remote.new) result }
     ensures undisturbed { Undisturbed (R.undisturbed remote.old) (R.undisturbed remote.new) (R.log remote.old) (R.log remote.new) }
     ensures no_faults { R.undisturbed remote.old ≡ true → R.faults remote.new ≡ R.faults remote.old }
+    ensures goes { R.goes remote.old remote.new }
 {
     let mut outcomes = List::new(alloc);
     for job in jobs.as_slice() {

@@ -2,7 +2,7 @@ use gd_item::{Digest, ErrorCode, ItemId};
 use gd_names::{Bytes, Exact};
 
 /// The transfer of one file.
-#[derive(Clone, Copy, Debug, PartialEq, Eq)]
+#[derive(Clone, Debug, PartialEq, Eq, Drop)]
 pub enum Job {
     /// From the drive, if its bytes have this digest.
     Fetch {

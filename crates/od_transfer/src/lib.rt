@@ -6,11 +6,9 @@ mod carry;
 mod job;
 mod laws;
 mod remote;
-#[cfg(test)]
-mod tests;
 
 pub use again::{ask_thrice, send_thrice};
 pub use carry::{Carrier, carry_each};
 pub use job::{Job, Outcome};
-pub use laws::{a_file_that_is_there_is_fetched, transfers_change_nothing};
+pub use laws::{a_file_that_is_there_is_fetched, jobs_ask_for_bytes, transfers_change_nothing};
 pub use remote::{AskFault, Remote};

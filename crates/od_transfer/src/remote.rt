@@ -5,7 +5,7 @@ use std::alloc::Global;
 use thiserror::Error;
 
 /// Why a request has no reply.
-#[derive(Clone, Copy, Debug, PartialEq, Eq, Error)]
+#[derive(Debug, PartialEq, Eq, Drop, Error)]
 pub enum AskFault {
     #[error("no reply came")]
     Failed,
@@ -35,11 +35,19 @@ pub trait Remote {
     /// changes since a token that is served, and those of fetches, have a reply.
     ghost undisturbed: { Self → Bool };
 
-    /// Sends one request.
+    /// That one goes on to the other by calls. What that means is the instance's.
+    ghost goes: { Self → Self → Type 0 };
+
+    /// Sends one request. After want of memory it may have come to the drive, and its reply may have been lost here.
     fn ask(&mut self, alloc: Global, request: &Request) -> Result<Reply, AskFault>
         ensures log { Asks request.now (log self.old) (log self.new) result }
         ensures kind { IfOk result (λ reply. may_answer request.now reply ≡ true) }
         ensures cause { HasAskCause (faults self.old) (faults self.new) (answers self.old) (answers self.new) (in_row self.old) (in_row self.new) result }
         ensures undisturbed { Undisturbed (undisturbed self.old) (undisturbed self.new) (log self.old) (log self.new) }
-        ensures no_faults { undisturbed self.old ≡ true → MayBeServed request.now (log self.old) → faults self.new ≡ faults self.old };
+        ensures no_faults { undisturbed self.old ≡ true → MayBeServed request.now (log self.old) → faults self.new ≡ faults self.old }
+        ensures goes { goes self.old self.new };
+
+    ghost goes_refl: { (x : Self) → goes x x };
+
+    ghost goes_trans: { (x y z : Self) → goes x y → goes y z → goes x z };
 }

@@ -4,6 +4,7 @@ use Rattle.std.proofs.lemmas.Grind.{flat_map-append}
 use Rattle.std.proofs.lemmas.List.{append_assoc, map-append}
 use Rattle.std.proofs.lemmas.List.Elements.{Contains-append_left, Contains-append_right, Contains-append_cases, All-contains_itself, All-weaker, recursion_from_All}
 use Rattle.std.specs.List.{AllByRecursion, Contains, flat_map}
+use Rattle.gd_names.proofs.Each.{each-append, each-first, each-second}
 use Rattle.gd_item.specs.declared.live.Version.{Version}
 use Rattle.od_tree.specs.Collisions.{placed_by, contents}
 use Rattle.od_tree.specs.Local.{Local, empty_folder, is_path, is_from, spot_at, file_in, file_at, held_at, greatest_number, without_spot, moved_from, without_held, has_place, after_placed_edit, set_aside, put_back, op_refusal, after_done_op, after_op, after_step, after_steps, local_of}
@@ -31,18 +32,6 @@ record Known (known : List (List ℕ)) (local : Local) : Type 0 where
 
 -- ---- lists
 module _ {X : Type 0} where
-  all-append : (Q : X → Type 0) (xs ys : List X) → AllByRecursion Q xs → AllByRecursion Q ys → AllByRecursion Q (xs ++ ys)
-  all-append Q [] ys first second = second
-  all-append Q (x ∷ xs) ys first second = (first.0, all-append Q xs ys first.1 second)
-
-  all-front : (Q : X → Type 0) (xs ys : List X) → AllByRecursion Q (xs ++ ys) → AllByRecursion Q xs
-  all-front Q [] ys all = tt
-  all-front Q (x ∷ xs) ys all = (all.0, all-front Q xs ys all.1)
-
-  all-rest : (Q : X → Type 0) (xs ys : List X) → AllByRecursion Q (xs ++ ys) → AllByRecursion Q ys
-  all-rest Q [] ys all = all
-  all-rest Q (x ∷ xs) ys all = all-rest Q xs ys all.1
-
   all-cut : (b : Bool) (Q : X → Type 0) (x : X) (xs rest : List X) → Q x → AllByRecursion Q xs → AllByRecursion Q rest → AllByRecursion Q (cond b xs (x ∷ rest))
   all-cut true Q x xs rest here all left = all
   all-cut false Q x xs rest here all left = (here, left)
@@ -70,7 +59,7 @@ moved-known known from to [] all = tt
 moved-known known from to (spot ∷ spots) all = (all.0, moved-known known from to spots all.1)
 
 one-more : (known : List (List ℕ)) (spots : List Spot) (last : Spot) → InSpots known spots → IsOneOf known last.file → InSpots known (spots ++ last ∷ [])
-one-more known spots last all here = all-append (λ (s : Spot). IsOneOf known s.file) spots (last ∷ []) all (here, tt)
+one-more known spots last all here = each-append (λ (s : Spot). IsOneOf known s.file) spots (last ∷ []) all (here, tt)
 
 -- ---- what is found
 found-if : (b : Bool) (known : List (List ℕ)) (spot : Spot) (rest : Option Spot) → IsOneOf known spot.file → IsOneOf known (file_in rest) → IsOneOf known (file_in (cond b (Some spot) rest))
@@ -118,7 +107,7 @@ aside known at local (Some file) here is =
     let after : Local = record { spots = without_spot at local.spots; held = local.held ++ last ∷ [] } in
     let done : Known known after = record {
       spots = without-known known at local.spots is.spots;
-      held = all-append (λ (f : HeldFile). Contains known f.file.bytes) local.held (last ∷ []) is.held (here, tt);
+      held = each-append (λ (f : HeldFile). Contains known f.file.bytes) local.held (last ∷ []) is.held (here, tt);
     } in
     elim (nat_eq (greatest_number local.held) (2 ^ 64 - 1)) as (λ b. Known known (cond b local after)) [ true ↦ is | false ↦ done ]
 
@@ -178,9 +167,9 @@ all-stepped : (known : List (List ℕ)) (at : ℕ) (local : Local) (steps : List
 all-stepped known at local [] wrote put is = is
 all-stepped known at local (step ∷ steps) wrote put is =
     let after : Local = after_step at local step in
-    all-stepped known (at + 1) after steps (all-rest (WriteIn known) (write_by at local step) (writes_after (at + 1) after steps) wrote)
-    (all-rest (Contains known) (placed_by step) (flat_map placed_by steps) put)
-    (stepped known at local step (all-front (WriteIn known) (write_by at local step) (writes_after (at + 1) after steps) wrote) (all-front (Contains known) (placed_by step) (flat_map placed_by steps) put) is)
+    all-stepped known (at + 1) after steps (each-second (WriteIn known) (write_by at local step) (writes_after (at + 1) after steps) wrote)
+    (each-second (Contains known) (placed_by step) (flat_map placed_by steps) put)
+    (stepped known at local step (each-first (WriteIn known) (write_by at local step) (writes_after (at + 1) after steps) wrote) (each-first (Contains known) (placed_by step) (flat_map placed_by steps) put) is)
 
 -- ---- the contents
 abbrev bytes_of : List (ℕ × List ℕ) → List (List ℕ)

@@ -1,6 +1,10 @@
 pub mod Above
+pub mod Below
 pub mod Contained
+pub mod Contents
 pub mod Entries
+pub mod GoingOn
+pub mod LeftAlone
 pub mod Lossless
 pub mod Paths
 pub mod Removing

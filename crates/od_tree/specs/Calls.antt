@@ -29,11 +29,12 @@ abbrev pub GrowsByEdits : Option (List LocalStep) → Option (List LocalStep) �
 GrowsByEdits before after =
     (old : List LocalStep) → before ≡ Some old → (edits : List UserEdit) × (after ≡ Some (edited old edits))
 
--- the log grows by edits, and then by the operation or not
+-- the log grows by edits, and then by the operation or not, and by none that would be refused there
 abbrev pub MayGrow : TreeOp → Option (List LocalStep) → Option (List LocalStep) → Type 0
 MayGrow call before after =
     (old : List LocalStep) → before ≡ Some old
-    → (edits : List UserEdit) × ((after ≡ Some (edited old edits)) ⊎ (after ≡ Some (with_op old edits call)))
+    → (edits : List UserEdit)
+    × ((after ≡ Some (edited old edits)) ⊎ ((after ≡ Some (with_op old edits call)) × (op_refusal (local_of (edited old edits)) call ≡ None)))
 
 -- what a call does to the log where it is told; the value is that of the folder right before the operation. A call that
 -- failed may have done it

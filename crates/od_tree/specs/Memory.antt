@@ -20,10 +20,18 @@ edits_of tree = tree.edits
 abbrev pub failing_of : MemoryTree → List (TreeCall × ℕ)
 failing_of tree = tree.failing
 
--- whether there are none of either
+-- how many calls of each kind were made, and that none were
+abbrev pub calls_of : MemoryTree → List ℕ
+calls_of tree = tree.calls
+
+abbrev pub no_calls : List ℕ
+no_calls = 0 ∷ 0 ∷ 0 ∷ 0 ∷ 0 ∷ 0 ∷ 0 ∷ 0 ∷ 0 ∷ 0 ∷ 0 ∷ []
+
+-- whether a list has nothing
 abbrev pub is_empty : {X : Type 0} → List X → Bool
 is_empty [] = true
 is_empty (x ∷ xs) = false
 
+-- whether no edits and no failures are armed
 abbrev pub is_undisturbed : MemoryTree → Bool
 is_undisturbed tree = is_empty (edits_of tree) && is_empty (failing_of tree)

@@ -8,6 +8,8 @@ use Rattle.od_tree.specs.declared.call.TreeCall.TheVariants as call
 use Rattle.od_tree.specs.declared.edit.UserEdit.{UserEdit}
 use Rattle.od_tree.specs.declared.step.LocalStep.{LocalStep}
 use Rattle.od_tree.specs.declared.step.LocalStep.TheVariants.{User}
+use Rattle.od_tree.specs.declared.step.TreeOp.{TreeOp}
+use Rattle.od_tree.specs.declared.step.TreeOp.TheVariants as op
 
 -- a number of its own for each kind of call
 abbrev pub kind_of : TreeCall → ℕ
@@ -22,6 +24,20 @@ kind_of call.ReadAside = 7
 kind_of call.PutBack = 8
 kind_of call.Discard = 9
 kind_of call.Asides = 10
+
+-- the call that does an operation
+abbrev pub call_of : TreeOp → TreeCall
+call_of (op.List at) = call.List
+call_of (op.Read at) = call.Read
+call_of (op.MakeDir at) = call.MakeDir
+call_of (op.RemoveDir at) = call.RemoveDir
+call_of (op.Place at bytes) = call.Place
+call_of (op.Rename from to) = call.Rename
+call_of (op.SetAside at) = call.SetAside
+call_of (op.ReadAside aside) = call.ReadAside
+call_of (op.PutBack aside to) = call.PutBack
+call_of (op.Discard aside) = call.Discard
+call_of op.Asides = call.Asides
 
 -- whether this is the call of a kind and a number
 abbrev pub is_call : TreeCall → ℕ → ℕ → ℕ → Bool

@@ -1,13 +1,17 @@
 //! Laws of the definitions, each the contract of a function that does nothing.
-ghost use Rattle.std.specs.Prelude.{◌≡◌, ℕ, true, false, ◌||◌, List, [], ◌∷◌, ◌++◌, length};
+ghost use Rattle.std.specs.Prelude.{◌≡◌, ℕ, true, false, ◌||◌, List, [], ◌∷◌, ◌++◌, length, Some};
 ghost use Rattle.std.specs.List.{list_any, AllByRecursion};
 ghost use Rattle.gd_item.specs.declared.live.Version.{Version};
 ghost use Rattle.od_tree.specs.Collisions.{contents};
+ghost use Rattle.od_tree.specs.GoingOn.{GoesOn};
 ghost use Rattle.od_tree.specs.Local.{local_of, has_place};
 ghost use Rattle.od_tree.specs.Loss.{is_somewhere, is_replaced, no_loss};
+ghost use Rattle.od_tree.specs.Memory.{log_of, faults_of, edits_of, failing_of};
 ghost use Rattle.od_tree.specs.Shape.{IsTree, IsOneOf};
 ghost use Rattle.od_tree.specs.Taking.{may_take, is_discard};
+ghost use Rattle.od_tree.specs.Undisturbed.{GrowsByOps};
 ghost use Rattle.od_tree.specs.declared.local.Spot.{Spot};
+ghost use Rattle.od_tree.specs.declared.memory.MemoryTree.{MemoryTree};
 ghost use Rattle.od_tree.specs.declared.step.LocalStep.{LocalStep};
 ghost use Rattle.od_tree.specs.declared.step.LocalStep.TheVariants.{User};
 ghost use Rattle.od_tree.specs.declared.edit.UserEdit.TheVariants.{Write};
@@ -51,4 +55,14 @@ pub fn every_folder_is_a_tree()
 /// The bytes of each file in the folder were written by the user or placed by the client.
 pub fn contents_were_written_or_placed()
     ensures { (log : List LocalStep) (versions : List Version) → AllByRecursion (λ (spot : Spot). IsOneOf (contents log versions) spot.file) (local_of log).spots }
+{}
+
+/// A folder in memory without armed edits grows by operations alone.
+pub fn an_unedited_folder_grows_by_operations()
+    ensures { (before after : MemoryTree) (log : List LocalStep) → edits_of before ≡ [] → log_of before ≡ Some log → GoesOn before after → GrowsByOps log (log_of after) }
+{}
+
+/// A folder in memory at which no calls are listed never fails.
+pub fn an_unlisted_folder_never_fails()
+    ensures { (before after : MemoryTree) → failing_of before ≡ [] → GoesOn before after → faults_of after ≡ faults_of before }
 {}

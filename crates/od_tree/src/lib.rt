@@ -14,8 +14,6 @@ mod look;
 mod memory;
 mod spots;
 mod step;
-#[cfg(test)]
-mod tests;
 mod tree;
 
 pub use call::TreeCall;
@@ -24,8 +22,9 @@ pub use entry::Entry;
 pub use fault::TreeFault;
 pub use instances::{calls_refused, file_carried, file_overwritten, folder_listed};
 pub use laws::{
-    a_file_stays_or_is_replaced, a_written_file_stands, contents_were_written_or_placed,
-    every_folder_is_a_tree, no_more_is_lost_without_a_discard, nothing_is_lost_without_a_discard,
+    a_file_stays_or_is_replaced, a_written_file_stands, an_unedited_folder_grows_by_operations,
+    an_unlisted_folder_never_fails, contents_were_written_or_placed, every_folder_is_a_tree,
+    no_more_is_lost_without_a_discard, nothing_is_lost_without_a_discard,
     only_the_user_or_a_discard_takes_a_file,
 };
 pub use local::{HeldFile, LocalFile, Spot};

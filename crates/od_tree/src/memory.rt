@@ -1,6 +1,7 @@
-ghost use Rattle.std.specs.Prelude.{◌≡◌, ◌⊎◌, ◌≤◌, ◌<◌, ◌+◌, ◌-◌, ◌^◌, ℕ, min, true, false, List, [], ◌∷◌, ◌++◌, cond, slice_index, slice_set, Some, OnOk, OnErr, IfOk, IfErr, IsErrOf};
+ghost use Rattle.std.specs.Prelude.{◌≡◌, ◌⊎◌, ◌≤◌, ◌<◌, true, false, List, [], ◌∷◌, ◌++◌, cond, Some, OnOk, OnErr, IfOk, IfErr, IsErrOf};
 ghost use Rattle.gd_names.specs.Streams.{Rose};
 ghost use Rattle.od_tree.specs.Doing.{Begins};
+ghost use Rattle.od_tree.specs.GoingOn.{Begun, FirstMade, fails_next, failed_by, next_call};
 ghost use Rattle.od_tree.specs.Memory.{is_empty};
 ghost use Rattle.od_tree.specs.Tied.{kind_of, is_call, is_listed, with_due, with_tied};
 
@@ -16,7 +17,8 @@ use gd_names::{Bytes, List, NoMemory, Path};
 use std::alloc::Global;
 
 /// A folder in memory. Edits of the user are tied to the k-th call of a kind, counted from 1, and are made right before
-/// it; an edit without a place is left out. A call that is listed as failing does nothing beside.
+/// it; an edit without a place is left out. A call that is listed as failing does nothing beside, and is counted as a failure
+/// also where memory is wanting for its edits.
 #[derive(Debug, Drop)]
 pub struct MemoryTree {
     folder: Folder,
@@ -28,7 +30,7 @@ pub struct MemoryTree {
 
 impl MemoryTree {
     ghost use Rattle.od_tree.specs.Local.{local_of, local_tree, has_place};
-    ghost use Rattle.od_tree.specs.Memory.{log_of, faults_of, edits_of, failing_of};
+    ghost use Rattle.od_tree.specs.Memory.{log_of, faults_of, edits_of, failing_of, calls_of, no_calls};
 
     pub fn new(
         alloc: Global,
@@ -39,6 +41,7 @@ impl MemoryTree {
         ensures faults { faults_of result ≡ 0 }
         ensures edits { edits_of result ≡ edits }
         ensures failing { failing_of result ≡ failing }
+        ensures calls { calls_of result ≡ no_calls }
     {
         MemoryTree {
             folder: Folder::new(alloc),
@@ -62,6 +65,9 @@ impl MemoryTree {
             → IfOk result (λ placed. (placed ≡ has_place (local_of log) edit.now) × (log_of self.new ≡ Some (cond placed (log ++ LocalStep.User edit.now ∷ []) log))) }
         ensures err { OnErr result (log_of self.new ≡ log_of self.old) }
         ensures faults { faults_of self.new ≡ faults_of self.old }
+        ensures edits { edits_of self.new ≡ edits_of self.old }
+        ensures failing { failing_of self.new ≡ failing_of self.old }
+        ensures calls { calls_of self.new ≡ calls_of self.old }
     {
         self.folder.user(edit)
     }
@@ -72,24 +78,35 @@ impl MemoryTree {
         ensures later { self.old.faults ≤ self.new.faults }
         ensures failed { IsErrOf result TreeFault.Failed → Rose self.old.faults self.new.faults }
         ensures kinds { IfErr result (λ fault. (fault ≡ TreeFault.Failed) ⊎ (fault ≡ TreeFault.Memory)) }
-        ensures counted { self.new.calls ≡ slice_set self.old.calls (kind_of call) (min (slice_index self.old.calls (kind_of call) + 1) (2 ^ 64 - 1)) }
-        ensures edits { self.new.edits ≡ self.old.edits }
-        ensures failing { self.new.failing ≡ self.old.failing }
-        ensures tied { OnOk result (self.new.folder ≡ with_tied self.old.folder self.old.edits (kind_of call) (slice_index self.new.calls (kind_of call))) }
-        ensures passes { OnOk result (is_listed self.old.failing (kind_of call) (slice_index self.new.calls (kind_of call)) ≡ false) }
-        ensures fails { IsErrOf result TreeFault.Failed → is_listed self.old.failing (kind_of call) (slice_index self.new.calls (kind_of call)) ≡ true }
+        ensures begun { Begun (kind_of call) self.old self.new }
+        ensures tied { OnOk result (self.new.folder ≡ with_tied self.old.folder self.old.edits (kind_of call) (next_call (kind_of call) self.old)) }
+        ensures passes { OnOk result (fails_next (kind_of call) self.old ≡ false) }
         ensures alone { is_empty self.old.edits ≡ true → self.new.folder ≡ self.old.folder }
         ensures no_faults { is_empty self.old.failing ≡ true → self.new.faults ≡ self.old.faults }
     {
         let kind = kind_of(call);
         let number = self.calls[kind].saturating_add(1);
         self.calls[kind] = number;
+        let fails = is_listed(self.failing.as_slice(), kind, number);
+        self.faults = failed_by(fails, self.faults);
         make_edits(&mut self.folder, self.edits.as_slice(), kind, number)?;
-        if is_listed(self.failing.as_slice(), kind, number) {
-            self.faults = self.faults.saturating_add(1);
+        if fails {
             return Err(TreeFault::Failed);
         }
         Ok(())
+    }
+}
+
+/// The count of failures after a call.
+fn failed_by(fails: bool, faults: u64) -> u64
+    ensures value { result ≡ failed_by fails faults }
+    ensures later { faults ≤ result }
+    ensures rose { fails ≡ true → Rose faults result }
+{
+    if fails {
+        faults.saturating_add(1)
+    } else {
+        faults
     }
 }
 
@@ -138,6 +155,7 @@ fn make_edits(
     number: u64,
 ) -> Result<(), NoMemory>
     ensures log { Begins folder.old folder.new }
+    ensures first { FirstMade edits.now kind number folder.old folder.new }
     ensures tied { OnOk result (folder.new ≡ with_tied folder.old edits.now kind number) }
     ensures alone { is_empty edits.now ≡ true → folder.new ≡ folder.old }
 {
@@ -151,6 +169,7 @@ fn make_edits(
 fn make_due(folder: &mut Folder, due: bool, edit: &UserEdit) -> Result<(), NoMemory>
     ensures log { Begins folder.old folder.new }
     ensures due { OnOk result (folder.new ≡ with_due folder.old due edit.now) }
+    ensures err { OnErr result (folder.new ≡ folder.old) }
 {
     if !due {
         return Ok(());
@@ -160,6 +179,7 @@ fn make_due(folder: &mut Folder, due: bool, edit: &UserEdit) -> Result<(), NoMem
 }
 
 impl Tree for MemoryTree {
+    ghost use Rattle.od_tree.specs.GoingOn.{GoesOn, goes_none, goes_then};
     ghost use Rattle.od_tree.specs.Memory.{log_of, faults_of, is_undisturbed};
 
     ghost log = { λ t. log_of t };
@@ -167,6 +187,12 @@ impl Tree for MemoryTree {
     ghost faults = { λ t. faults_of t };
 
     ghost undisturbed = { λ t. is_undisturbed t };
+
+    ghost goes = { GoesOn };
+
+    ghost goes_refl = { goes_none };
+
+    ghost goes_trans = { goes_then };
 
     fn list(&mut self, alloc: Global, at: &Path) -> Result<List<Entry>, TreeFault> {
         self.begin(TreeCall::List)?;

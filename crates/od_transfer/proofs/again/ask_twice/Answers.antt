@@ -1,14 +1,15 @@
-use Rattle.od_transfer.proofs.Repeats.{again-heard, again-unheard}
+use Rattle.od_transfer.proofs.Repeats.{at-once, without-memory, again-heard, again-unheard}
 use Rattle.od_transfer.proofs.Undisturbing.{undisturbed_then, no_faults-again}
 use Rattle.od_transfer.proofs.again.ask_twice.Goals as goal
 
-pub returns-in-Ok-ask_once-clause-log : goal.returns-in-Ok-ask_once-clause-log
-returns-in-Ok-ask_once-clause-log g c =
-    again-heard c.args.request.now c.in-Err-Failed.field-0 c.in-Ok-ask_once.reply (g.R.Remote.log c.args.remote.now) (g.R.Remote.log c.ask_once.new.remote) (g.R.Remote.log c.ask_once-in-Err-Failed.new.remote) c.in-Err-Failed.ensures.log c.in-Ok-ask_once.ensures.log
+pub returns-in-Ok-clause-log : goal.returns-in-Ok-clause-log
+returns-in-Ok-clause-log g c = at-once 1 c.args.request.now c.in-Ok.ensures.log
 
-pub returns-in-Err-clause-log : goal.returns-in-Err-clause-log
-returns-in-Err-clause-log g c =
-    again-unheard c.args.request.now c.in-Err-Failed.field-0 c.in-Err.fault (g.R.Remote.log c.args.remote.now) (g.R.Remote.log c.ask_once.new.remote) (g.R.Remote.log c.ask_once-in-Err-Failed.new.remote) c.in-Err-Failed.ensures.log c.in-Err.ensures.log
+pub returns-in-Err-Memory-clause-log : goal.returns-in-Err-Memory-clause-log
+returns-in-Err-Memory-clause-log g c = without-memory 1 c.args.request.now c.in-Err-Memory.field-0-is c.in-Err-Memory.ensures.log
+
+pub returns-in-Ok-ask_once-clause-log : goal.returns-in-Ok-ask_once-clause-log
+returns-in-Ok-ask_once-clause-log g c = again-heard 0 c.args.request.now c.in-Err-Failed.field-0-is c.in-Err-Failed.ensures.log c.in-Ok-ask_once.ensures.log
 
 pub returns-in-Ok-ask_once-clause-undisturbed : goal.returns-in-Ok-ask_once-clause-undisturbed
 returns-in-Ok-ask_once-clause-undisturbed g c =
@@ -16,8 +17,13 @@ returns-in-Ok-ask_once-clause-undisturbed g c =
 
 pub returns-in-Ok-ask_once-clause-no_faults : goal.returns-in-Ok-ask_once-clause-no_faults
 returns-in-Ok-ask_once-clause-no_faults g c =
-    no_faults-again c.args.request.now c.in-Err-Failed.field-0 (g.R.Remote.undisturbed c.args.remote.now) (g.R.Remote.undisturbed c.ask_once.new.remote) (g.R.Remote.log c.args.remote.now) (g.R.Remote.log c.ask_once.new.remote)
-    (g.R.Remote.faults c.args.remote.now) (g.R.Remote.faults c.ask_once.new.remote) (g.R.Remote.faults c.ask_once-in-Err-Failed.new.remote) c.in-Err-Failed.ensures.undisturbed c.in-Err-Failed.ensures.log c.in-Err-Failed.ensures.no_faults c.in-Ok-ask_once.ensures.no_faults
+    no_faults-again c.args.request.now c.in-Err-Failed.field-0-is c.in-Err-Failed.ensures.undisturbed c.in-Err-Failed.ensures.log c.in-Err-Failed.ensures.no_faults c.in-Ok-ask_once.ensures.no_faults
+
+pub returns-in-Ok-ask_once-clause-goes : goal.returns-in-Ok-ask_once-clause-goes
+returns-in-Ok-ask_once-clause-goes g c = g.met.R.Remote.goes_trans c.args.remote.now c.ask_once.new.remote c.ask_once-in-Err-Failed.new.remote c.in-Err-Failed.ensures.goes c.in-Ok-ask_once.ensures.goes
+
+pub returns-in-Err-clause-log : goal.returns-in-Err-clause-log
+returns-in-Err-clause-log g c = again-unheard 0 c.args.request.now c.in-Err-Failed.field-0-is c.in-Err-Failed.ensures.log c.in-Err.ensures.log
 
 pub returns-in-Err-clause-undisturbed : goal.returns-in-Err-clause-undisturbed
 returns-in-Err-clause-undisturbed g c =
@@ -25,5 +31,7 @@ returns-in-Err-clause-undisturbed g c =
 
 pub returns-in-Err-clause-no_faults : goal.returns-in-Err-clause-no_faults
 returns-in-Err-clause-no_faults g c =
-    no_faults-again c.args.request.now c.in-Err-Failed.field-0 (g.R.Remote.undisturbed c.args.remote.now) (g.R.Remote.undisturbed c.ask_once.new.remote) (g.R.Remote.log c.args.remote.now) (g.R.Remote.log c.ask_once.new.remote)
-    (g.R.Remote.faults c.args.remote.now) (g.R.Remote.faults c.ask_once.new.remote) (g.R.Remote.faults c.ask_once-in-Err-Failed.new.remote) c.in-Err-Failed.ensures.undisturbed c.in-Err-Failed.ensures.log c.in-Err-Failed.ensures.no_faults c.in-Err.ensures.no_faults
+    no_faults-again c.args.request.now c.in-Err-Failed.field-0-is c.in-Err-Failed.ensures.undisturbed c.in-Err-Failed.ensures.log c.in-Err-Failed.ensures.no_faults c.in-Err.ensures.no_faults
+
+pub returns-in-Err-clause-goes : goal.returns-in-Err-clause-goes
+returns-in-Err-clause-goes g c = g.met.R.Remote.goes_trans c.args.remote.now c.ask_once.new.remote c.ask_once-in-Err-Failed.new.remote c.in-Err-Failed.ensures.goes c.in-Err.ensures.goes

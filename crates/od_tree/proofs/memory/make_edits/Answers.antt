@@ -1,9 +1,14 @@
+use Rattle.std.proofs.Common.{refl}
 use Rattle.od_tree.proofs.Steps.{begins-more}
-use Rattle.od_tree.proofs.Tied.{tied-next, not-empty}
+use Rattle.od_tree.proofs.Tied.{first-made, not-empty, tied-all, tied-next}
 use Rattle.od_tree.proofs.memory.make_edits.Goals as goal
 
 pub returns-in_err-make_due-clause-log : goal.returns-in_err-make_due-clause-log
 returns-in_err-make_due-clause-log c = begins-more _ _ _ c.loop-call.invariant.log c.make_due.ensures.log
+
+pub returns-in_err-make_due-clause-first : goal.returns-in_err-make_due-clause-first
+returns-in_err-make_due-clause-first c =
+    first-made c.args.edits.now c.loop-call.call-index c.args.folder.now c.loop-call.folder c.make_due.new.folder c.args.kind c.args.number c.in_err-make_due.ensures.err c.loop-call.invariant.tied
 
 pub loop-call-preserved : goal.loop-call-preserved
 loop-call-preserved c = record {

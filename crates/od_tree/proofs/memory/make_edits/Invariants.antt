@@ -1,4 +1,4 @@
-use Rattle.std.proofs.Common.{◌≡◌, true, drop}
+use Rattle.std.proofs.Common.{◌≡◌, true, take}
 use Rattle.od_tree.specs.Doing.{Begins}
 use Rattle.od_tree.specs.Memory.{is_empty}
 use Rattle.od_tree.specs.Tied.{with_tied}
@@ -7,6 +7,6 @@ use Rattle.od_tree.proofs.memory.make_edits.Given as goal
 abbrev pub invariant-loop-call : goal.invariant-loop-call
 invariant-loop-call l = record {
   log : Begins l.fn.folder l.folder;
-  tied : with_tied l.folder (drop l.call-index l.edits) l.kind l.number ≡ with_tied l.fn.folder l.edits l.kind l.number;
+  tied : l.folder ≡ with_tied l.fn.folder (take l.call-index l.edits) l.kind l.number;
   alone : is_empty l.edits ≡ true → l.folder ≡ l.fn.folder;
 }

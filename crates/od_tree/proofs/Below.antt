@@ -1,6 +1,6 @@
 -- What stands at and below a path, in a list of entries in order of path.
 use Rattle.std.proofs.Common.{◌≡◌, ℕ, ◌+◌, ◌⊎◌, inl, inr, Bool, true, false, not, ◌&&◌, cond, List, [], ◌∷◌, ◌++◌, length, nat_eq, refl, ap, sym, subst, ◌∙◌, arith}
-use Rattle.std.proofs.lemmas.Bool.{eq-eqb, eqb-true}
+use Rattle.std.proofs.lemmas.Bool.{and_parts, eq-eqb, eqb-true}
 use Rattle.std.specs.Cmp.Lexicographic.{pointwise, slice_cmp, same_text, nat_list_cmp_total}
 use Rattle.std.specs.List.{AllByRecursion}
 use Rattle.std.specs.Ordering.{nat_cmp, ordering_then}
@@ -11,8 +11,8 @@ use Rattle.gd_names.specs.Ordered.{path_cmp}
 use Rattle.gd_item.specs.Places.{last_name}
 use Rattle.od_tree.specs.Local.{is_path, is_from}
 use Rattle.od_tree.specs.Listing.{is_right_below}
+use Rattle.od_tree.proofs.Paths.{path-self, same-path, text-self}
 use Rattle.gd_names.proofs.Ordered.{Path, Above, Rises, In, kept, all-in, rises-kept, paths-total}
-use Rattle.od_sync.proofs.Compared.{both, same-path, text-self}
 
 abbrev pub is_below : Path → Path → Bool
 is_below top path = is_from top path && not (is_path top path)
@@ -23,17 +23,13 @@ one-test false b c is = absurd (cc is)
 
 pub right-parts : (top path : Path) → is_right_below top path ≡ true → (is_from top path ≡ true) × (length path ≡ length top + 1)
 right-parts top path is =
-    let parts = both (is_from top path) (nat_eq (length path) (length top + 1)) is in (parts.0, eqb-true (length path) (length top + 1) parts.1)
+    let parts = and_parts (is_from top path) (nat_eq (length path) (length top + 1)) is in (parts.0, eqb-true (length path) (length top + 1) parts.1)
 
 right-below : (top path : Path) → is_from top path ≡ true → length path ≡ length top + 1 → is_right_below top path ≡ true
 right-below top path is long = rw (is) (eq-eqb (length path) (length top + 1) long)
 
 below-next : (x y : List ℕ) (top path : Path) → is_below (x ∷ top) (y ∷ path) ≡ true → (pointwise nat_eq x y ≡ true) × (is_below top path ≡ true)
 below-next x y top path below = one-test (pointwise nat_eq x y) (is_from top path) (is_path top path) below
-
-pub path-self : (a : Path) → is_path a a ≡ true
-path-self [] = refl
-path-self (x ∷ a) = rw (text-self x) (path-self a)
 
 pub from-self : (a : Path) → is_from a a ≡ true
 from-self [] = refl
@@ -48,7 +44,7 @@ not-after [] [] from low = absurd (cc low)
 not-after [] (y ∷ path) from low = absurd (cc low)
 not-after (x ∷ top) [] from low = absurd (cc from)
 not-after (x ∷ top) (y ∷ path) from low =
-    let parts = both (pointwise nat_eq x y) (is_from top path) from in
+    let parts = and_parts (pointwise nat_eq x y) (is_from top path) from in
     let tied : slice_cmp nat_cmp y x ≡ Equal = subst (λ (z : List ℕ). slice_cmp nat_cmp y z ≡ Equal) (sym (same_text x y (sym parts.0))) (text-tied y) in
     not-after top path parts.1 (sym (ap (λ o. ordering_then o (path_cmp path top)) tied) ∙ low)
 
@@ -65,8 +61,8 @@ apart (x ∷ a) [] c d low long from_a from_b = absurd (omega (arith, long))
 apart (x ∷ a) (y ∷ b) [] d low long from_a from_b = absurd (cc from_a)
 apart (x ∷ a) (y ∷ b) (z ∷ c) [] low long from_a from_b = absurd (cc from_b)
 apart (x ∷ a) (y ∷ b) (z ∷ c) (w ∷ d) low long from_a from_b =
-    let first = both (pointwise nat_eq x z) (is_from a c) from_a in
-    let second = both (pointwise nat_eq y w) (is_from b d) from_b in
+    let first = and_parts (pointwise nat_eq x z) (is_from a c) from_a in
+    let second = and_parts (pointwise nat_eq y w) (is_from b d) from_b in
     let lower : ordering_then (slice_cmp nat_cmp z w) (path_cmp a b) ≡ Less =
     sym (ap (λ (s : List ℕ). ordering_then (slice_cmp nat_cmp s y) (path_cmp a b)) (same_text x z (sym first.0)) ∙ ap (λ (s : List ℕ). ordering_then (slice_cmp nat_cmp z s) (path_cmp a b)) (same_text y w (sym second.0))) ∙ low in
     apart-at (slice_cmp nat_cmp z w) (path_cmp a b) (path_cmp c d) lower
@@ -104,7 +100,7 @@ step-from (x ∷ top) (y ∷ path) below =
 right-next : (x y : List ℕ) (top path : Path) → is_right_below (x ∷ top) (y ∷ path) ≡ true → (pointwise nat_eq x y ≡ true) × (is_right_below top path ≡ true)
 right-next x y top path right =
     let parts = right-parts (x ∷ top) (y ∷ path) right in
-    let first = both (pointwise nat_eq x y) (is_from top path) parts.0 in
+    let first = and_parts (pointwise nat_eq x y) (is_from top path) parts.0 in
     (first.0, right-below top path first.1 (omega (arith, parts.1)))
 
 pub right-name : (top path : Path) → is_right_below top path ≡ true → top ++ last_name path ∷ [] ≡ path
@@ -125,7 +121,7 @@ right-then-below (x ∷ top) [] last right from = absurd (omega (arith, (right-p
 right-then-below (x ∷ top) (y ∷ path) [] right from = absurd (cc from)
 right-then-below (x ∷ top) (y ∷ path) (z ∷ last) right from =
     let parts = right-next x y top path right in
-    let here = both (pointwise nat_eq y z) (is_from path last) from in
+    let here = and_parts (pointwise nat_eq y z) (is_from path last) from in
     let first : pointwise nat_eq x z ≡ true = subst (λ (n : List ℕ). pointwise nat_eq n z ≡ true) (sym (same_text x y (sym parts.0))) here.0 in
     rw (first) (right-then-below top path last parts.1 here.1)
 
@@ -142,8 +138,8 @@ below-or-here true f is = absurd (cc is)
 below-or-here false true is = refl
 below-or-here false false is = refl
 
-path-apart : (a b : Path) → path_cmp a b ≡ Less → is_path a b ≡ false
-path-apart a b low = false-by (is_path a b) (λ same. absurd (cc (sym (tied_itself paths-total b) ∙ sym (ap (λ (p : Path). path_cmp p b) (same-path a b same)) ∙ low)))
+lower-apart : (a b : Path) → path_cmp a b ≡ Less → is_path a b ≡ false
+lower-apart a b low = false-by (is_path a b) (λ same. absurd (cc (sym (tied_itself paths-total b) ∙ sym (ap (λ (p : Path). path_cmp p b) (same-path a b same)) ∙ low)))
 
 -- ---- entries
 module _ {X : Type 0} where
@@ -260,7 +256,7 @@ module _ {X : Type 0} where
   only-below : (top : Path) (entries : List (Path × X)) → Above top entries → AllByRecursion (λ (entry : Path × X). is_from top entry.0 ≡ is_below top entry.0) entries
   only-below top [] above = tt
   only-below top (entry ∷ entries) above =
-      (sym (below-or-here (is_path top entry.0) (is_from top entry.0) (path-apart top entry.0 above.0)), only-below top entries above.1)
+      (sym (below-or-here (is_path top entry.0) (is_from top entry.0) (lower-apart top entry.0 above.0)), only-below top entries above.1)
 
   skip-both : (b c : Bool) (entry first : Path × X) (fs bs : List (Path × X)) → b ≡ false → fs ≡ entry ∷ bs → cond b (first ∷ fs) fs ≡ entry ∷ cond (b && c) (first ∷ bs) bs
   skip-both true c entry first fs bs is same = absurd (cc is)

@@ -1,7 +1,8 @@
 -- A folder that the user leaves alone, over no call of it and over two in a row.
-use Rattle.std.proofs.Common.{ℕ, Bool, List, [], ◌∷◌, ◌++◌, Option, Some, ap, sym, ◌∙◌, refl, append_assoc}
+use Rattle.std.proofs.Common.{ℕ, Bool, List, [], ◌++◌, Option, Some, ap, sym, ◌∙◌, refl, append_assoc}
 use Rattle.std.proofs.lemmas.List.{append-nil}
-use Rattle.od_tree.specs.Undisturbed.{NoUser, GrowsByOps, Undisturbed}
+use Rattle.gd_names.proofs.Each.{each-append}
+use Rattle.od_tree.specs.Undisturbed.{IsOp, GrowsByOps, Undisturbed}
 use Rattle.od_tree.specs.declared.step.LocalStep.{LocalStep}
 
 pub undisturbed_same : (undisturbed : Bool) (faults : ℕ) (log : Option (List LocalStep)) → Undisturbed undisturbed undisturbed faults faults log log
@@ -11,14 +12,10 @@ undisturbed_same undisturbed faults log = record {
   alone = λ is old told. record { part = []; ops = tt; grown = told ∙ ap (λ steps. Some steps) (sym (append-nil old)) };
 }
 
-no_user-append : (steps more : List LocalStep) → NoUser steps → NoUser more → NoUser (steps ++ more)
-no_user-append [] more first second = second
-no_user-append (step ∷ steps) more first second = (first.0, no_user-append steps more first.1 second)
-
 by-ops : (old : List LocalStep) (middle after : Option (List LocalStep)) (first : GrowsByOps old middle) → GrowsByOps (old ++ first.part) after → GrowsByOps old after
 by-ops old middle after first second = record {
   part = first.part ++ second.part;
-  ops = no_user-append first.part second.part first.ops second.ops;
+  ops = each-append IsOp first.part second.part first.ops second.ops;
   grown = second.grown ∙ ap (λ steps. Some steps) (append_assoc old first.part second.part);
 }
 

@@ -1,9 +1,9 @@
 ghost use Rattle.std.specs.Prelude.{◌≡◌, true, IfOk};
 ghost use Rattle.od_transfer.specs.Asking.{may_answer};
 
-use super::*;
 use gd_item::{ErrorCode, ItemId, Reply, Request, digest_of};
 use gd_names::{Bytes, List, NoMemory};
+use od_transfer::{AskFault, Job, Outcome, Remote, ask_thrice, carry_each, send_thrice};
 use std::alloc::{AllocError, Global};
 use std::test::Fail;
 
@@ -58,6 +58,12 @@ impl Remote for OneFile {
     ghost in_row = { λ r. r.failures };
 
     ghost undisturbed = { λ r. false };
+
+    ghost goes = { λ x y. Unit {0} };
+
+    ghost goes_refl = { λ x. tt };
+
+    ghost goes_trans = { λ x y z first more. tt };
 
     fn ask(&mut self, _alloc: Global, request: &Request) -> Result<Reply, AskFault> {
         if self.lost > 0 {

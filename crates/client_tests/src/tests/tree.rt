@@ -1,7 +1,7 @@
 ghost use Rattle.std.specs.Prelude.{◌<◌, length, IfOk};
 
-use super::*;
 use gd_names::{Bytes, List, NoMemory, Path, Text};
+use od_tree::{MemoryTree, Tree, TreeCall, TreeFault, UserEdit};
 use std::alloc::Global;
 use std::test::Fail;
 

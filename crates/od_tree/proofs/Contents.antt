@@ -12,8 +12,9 @@ use Rattle.gd_item.specs.declared.step.Step.{Step}
 use Rattle.gd_names.proofs.Each.{each, each-so}
 use Rattle.gd_names.proofs.Ordered.{all-in-order-from}
 use Rattle.gd_item.proofs.LogsGrow.{accepted-log}
-use Rattle.gd_item.proofs.LogsVersions.{IsKnown, known-inventory}
-use Rattle.od_mirror.specs.Drive.{placed_items}
+use Rattle.gd_item.proofs.LogsVersions.{IsKnown}
+use Rattle.gd_laws.proofs.Placing.{Each, each-in-order, items-known}
+use Rattle.gd_laws.specs.Placed.{placed_items}
 use Rattle.od_tree.specs.Collisions.{placed_by, contents, NoCollision}
 use Rattle.od_tree.specs.Local.{bytes_in, local_of, local_tree}
 use Rattle.od_tree.specs.Loss.{writes}
@@ -22,8 +23,11 @@ use Rattle.od_tree.specs.declared.local.LocalFile.{LocalFile}
 use Rattle.od_tree.specs.declared.local.Spot.{Spot}
 use Rattle.od_tree.specs.declared.step.LocalStep.{LocalStep}
 use Rattle.od_tree.proofs.Contained.{contents_known, more_contents}
-use Rattle.od_sync.proofs.Compared.{IsAmong}
-use Rattle.od_sync.proofs.Placing.{Each, each-in-order}
+
+-- the bytes, if there are any, are among these
+abbrev pub IsAmong : List (List ℕ) → Option (List ℕ) → Type 0
+IsAmong known None = Unit {0}
+IsAmong known (Some bytes) = Contains known bytes
 
 -- ---- in the folder
 file-among : (known : List (List ℕ)) (file : Option LocalFile) → IsOneOf known file → IsAmong known (bytes_in file)
@@ -56,9 +60,6 @@ item-among : (log : List LocalStep) (versions : List Version) (item : LiveItem) 
 item-among log versions item None is known = tt
 item-among log versions item (Some bytes) is known =
     version-among log versions (record { item = item.number; content = item.content; bytes = bytes }) (known bytes is)
-
-pub items-known : (drive : List Step) → AllByRecursion (IsKnown (accepted_by drive)) (held_by drive).items
-items-known drive = each (IsKnown (accepted_by drive)) (held_by drive).items (known-inventory (state_of drive).effects).living
 
 pub drive-among : (log : List LocalStep) (drive : List Step)
     → Each (λ (item : LiveItem). IsAmong (contents log (accepted_by drive)) item.bytes) (in_order (placed_items (held_by drive)))

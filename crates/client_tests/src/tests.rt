@@ -1,0 +1,2 @@
+mod transfer;
+mod tree;

@@ -1,0 +1,5 @@
+use Rattle.od_tree.proofs.GoingOn.{unlisted}
+use Rattle.od_tree.proofs.laws.an_unlisted_folder_never_fails.Goals as goal
+
+pub returns : goal.returns
+returns c before after none goes = unlisted before after none goes
