@@ -1,2 +1,4 @@
+pub mod Called
 pub mod Growing
+pub mod LastImages
 pub mod Lists

@@ -1,3 +1,5 @@
+pub mod Called
+pub mod GoingOn
 pub mod Images
 pub mod Inserting
 pub mod Keeping

@@ -1,9 +1,12 @@
 //! Laws of the definitions, each the contract of a function that does nothing.
-ghost use Rattle.std.specs.Prelude.{List, ◌++◌};
+ghost use Rattle.std.specs.Prelude.{◌≡◌, List, [], ◌++◌};
 ghost use Rattle.gd_item.specs.declared.step.Step.{Step};
+ghost use Rattle.od_keeper.specs.Called.{GoesOn};
 ghost use Rattle.od_keeper.specs.Images.{empty_image};
+ghost use Rattle.od_keeper.specs.Memory.{faults_of, failing_of};
 ghost use Rattle.od_keeper.specs.Sound.{IsSound};
 ghost use Rattle.od_keeper.specs.declared.image.Image.{Image};
+ghost use Rattle.od_keeper.specs.declared.memory.MemoryKeeper.{MemoryKeeper};
 
 /// An image that is sound stays sound while the drive's log grows.
 pub fn soundness_is_kept()
@@ -13,4 +16,9 @@ pub fn soundness_is_kept()
 /// The image of a beginning is sound.
 pub fn the_empty_image_is_sound()
     ensures { (log : List Step) → IsSound empty_image log }
+{}
+
+/// A keeper in memory for which no call is listed never fails.
+pub fn unlisted_calls_never_fail()
+    ensures { (before after : MemoryKeeper) → GoesOn before after → failing_of before ≡ [] → faults_of after ≡ faults_of before }
 {}

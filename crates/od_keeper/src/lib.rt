@@ -7,12 +7,10 @@ mod image;
 mod keeper;
 mod laws;
 mod memory;
-#[cfg(test)]
-mod tests;
 
 pub use apply::{applied, empty_image};
 pub use fault::KeeperFault;
 pub use image::{Agreed, BaseRow, Change, Image};
 pub use keeper::Keeper;
-pub use laws::{soundness_is_kept, the_empty_image_is_sound};
+pub use laws::{soundness_is_kept, the_empty_image_is_sound, unlisted_calls_never_fail};
 pub use memory::MemoryKeeper;

@@ -1,5 +1,6 @@
 ghost use Rattle.std.specs.Prelude.{◌≡◌, ◌≤◌, true, false, [], Some, IfOk, MatchBool};
 ghost use Rattle.gd_names.specs.Streams.{Rose};
+ghost use Rattle.od_keeper.specs.Called.{called, counts_of};
 ghost use Rattle.od_keeper.specs.Images.{applied};
 ghost use Rattle.od_keeper.specs.Keeping.{last_image};
 ghost use Rattle.od_keeper.specs.Memory.{is_empty};
@@ -41,6 +42,7 @@ impl MemoryKeeper {
     /// Counts a call, and says whether it fails.
     fn fails(&mut self) -> bool
         ensures images { self.new.images ≡ self.old.images }
+        ensures counts { counts_of self.new ≡ called self.old.failing (counts_of self.old) }
         ensures faults { MatchBool result (Rose self.old.faults self.new.faults) (self.new.faults ≡ self.old.faults) }
         ensures later { self.old.faults ≤ self.new.faults }
         ensures failing { self.new.failing ≡ self.old.failing }
@@ -79,6 +81,8 @@ fn next_of(alloc: Global, change: &Change, images: &[Image]) -> Result<Image, No
 }
 
 impl Keeper for MemoryKeeper {
+    ghost use Rattle.od_keeper.specs.Called.{GoesOn};
+    ghost use Rattle.od_keeper.specs.GoingOn.{going_nowhere, going_further, going_later};
     ghost use Rattle.od_keeper.specs.Memory.{images_of, faults_of, is_undisturbed};
 
     ghost images = { λ k. images_of k };
@@ -86,6 +90,14 @@ impl Keeper for MemoryKeeper {
     ghost faults = { λ k. faults_of k };
 
     ghost undisturbed = { λ k. is_undisturbed k };
+
+    ghost goes = { GoesOn };
+
+    ghost goes_refl = { going_nowhere };
+
+    ghost goes_trans = { going_further };
+
+    ghost goes_later = { going_later };
 
     fn load(&mut self, alloc: Global) -> Result<Image, KeeperFault> {
         if self.fails() {

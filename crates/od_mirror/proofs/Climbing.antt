@@ -28,15 +28,6 @@ node-step path all (Some node) = parent-step path all node.name node.parent
 pub step-path : (steps : ℕ) (all : List Node) (at : ℕ) → nat_eq at 1 ≡ false → path_within (suc steps) all at ≡ after_step (path_within steps all) (step_up all at)
 step-path steps all at below_root = rw below_root (node-step (path_within steps all) all (node_at at all))
 
--- at the root the path is empty, however many steps are left
-pub root-path : (steps : ℕ) (all : List Node) (at : ℕ) → nat_eq at 1 ≡ true → path_within steps all at ≡ Some []
-root-path zero all at root = rw root
-root-path (suc steps) all at root = rw root
-
--- with no step left there is a path at the root alone
-pub no-step-path : (all : List Node) (at : ℕ) → nat_eq at 1 ≡ false → path_within 0 all at ≡ None
-no-step-path all at below_root = rw below_root
-
 steps-left : (count index : ℕ) → index < count → count - index ≡ suc (count - (index + 1))
 steps-left count index more = omega arith
 

@@ -8,9 +8,9 @@ use Rattle.std.specs.Map.{remove_entry}
 use Rattle.std.proofs.lemmas.Map.Lookups.{exact_unsigned}
 use Rattle.gd_item.specs.declared.item.Item.{Item}
 use Rattle.gd_item.specs.declared.item.Kind.{Kind}
-use Rattle.gd_item.specs.declared.item.Kind.TheVariants.{Folder, File, Deleted}
+use Rattle.gd_item.specs.declared.item.Kind.TheVariants.{Folder, File, Bare, Deleted}
 use Rattle.od_mirror.specs.Climbs.{IsKeyed}
-use Rattle.od_mirror.specs.Pulled.{with_kind, with_record, with_records}
+use Rattle.od_mirror.specs.Pulled.{known_item, with_kind, with_record, with_records}
 
 keyed-at : (o : Ordering) (entry : ℕ × Item) (items : List (ℕ × Item)) (item : Item) → o ≡ nat_cmp item.id.0 entry.0 → IsKeyed (entry ∷ items)
     → IsKeyed (insert_entry nat_cmp items item.id.0 item)
@@ -39,6 +39,7 @@ keyed-remove (entry ∷ items) number keyed =
 keyed-kind : (kind : Kind) (items : List (ℕ × Item)) (item : Item) → IsKeyed items → IsKeyed (with_kind kind items item.id.0 item)
 keyed-kind (Folder child_count) items item keyed = keyed-insert items item keyed
 keyed-kind (File digest) items item keyed = keyed-insert items item keyed
+keyed-kind Bare items item keyed = keyed-insert items (known_item items item) keyed
 keyed-kind Deleted items item keyed = keyed-remove items item.id.0 keyed
 
 pub keyed-record : (items : List (ℕ × Item)) (item : Item) → IsKeyed items → IsKeyed (with_record items item)

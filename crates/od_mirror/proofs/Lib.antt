@@ -1,9 +1,14 @@
+pub mod Based
 pub mod Climbing
-pub mod Feed
-pub mod Inserted
+pub mod Fed
 pub mod Keyed
 pub mod Misfits
+pub mod Numbered
 pub mod Placing
+pub mod Pulling
 pub mod Rising
 pub mod Rooted
+pub mod Shown
 pub mod Standing
+pub mod Told
+pub mod Uncounted

@@ -1,20 +1,23 @@
 -- What a client knows of a drive from the pages of its feed: by number the last record of each item, without the
 -- deleted ones. Pages that make no drive are told by the least number that does not fit.
-use Rattle.std.specs.Prelude.{◌≡◌, ℕ, ◌<◌, Bool, true, false, not, ◌&&◌, ◌||◌, List, [], ◌∷◌, map, filter, is_none, nat_eq, Option, Some, None}
+use Rattle.std.specs.Prelude.{◌≡◌, ℕ, ◌<◌, Bool, true, false, not, ◌&&◌, ◌||◌, cond, List, [], ◌∷◌, map, filter, is_none, nat_eq, Option, Some, None}
+use Rattle.std.specs.Cmp.Lexicographic.{pointwise}
 use Rattle.std.specs.Ordering.{nat_cmp}
 use Rattle.std.specs.BTreeMap.{insert_entry, is_at}
-use Rattle.std.specs.Map.{remove_entry}
+use Rattle.std.specs.Map.{values_of, lookup, remove_entry}
 use Rattle.gd_names.specs.Ordered.{in_order}
 use Rattle.gd_item.specs.Nodes.{Node, item_node, node_at, is_some_folder, path_of, has_twin}
 use Rattle.gd_item.specs.Trees.{placed}
 use Rattle.gd_item.specs.declared.item.Item.{Item}
 use Rattle.gd_item.specs.declared.item.Kind.{Kind}
-use Rattle.gd_item.specs.declared.item.Kind.TheVariants.{Folder, File, Deleted}
+use Rattle.gd_item.specs.declared.item.Kind.TheVariants.{Folder, File, Bare, Deleted}
+use Rattle.gd_item.specs.declared.item.Tag.{Tag}
 use Rattle.gd_item.specs.declared.reply.Page.{Page}
 use Rattle.gd_item.specs.declared.reply.PageLink.{PageLink}
 use Rattle.gd_item.specs.declared.reply.PageLink.TheVariants as link
 use Rattle.od_mirror.specs.declared.mirror.Taken.{Taken}
 use Rattle.od_mirror.specs.declared.mirror.Taken.TheVariants.{More, Last}
+use Rattle.od_mirror.specs.declared.view.MirrorView.{MirrorView}
 
 -- what was pulled so far: the items by number, the token of the next request, and the token of the next
 -- enumeration once the last page was taken
@@ -23,10 +26,25 @@ pub record Pulled : Type 0 where
   pub token : Option (List ℕ)
   pub last : Option (List ℕ)
 
+-- a file whose record gives no digest has that of the item which stands at its number, where this is the same file
+abbrev pub known_from : Kind → Kind
+known_from (Folder child_count) = Bare
+known_from (File digest) = File digest
+known_from Bare = Bare
+known_from Deleted = Bare
+
+abbrev pub known_kind : Tag → Option Item → Kind
+known_kind etag None = Bare
+known_kind etag (Some item) = cond (pointwise nat_eq item.etag.0 etag.0) (known_from item.kind) Bare
+
+abbrev pub known_item : List (ℕ × Item) → Item → Item
+known_item items item = record item { kind = known_kind item.etag (lookup (is_at (nat_cmp item.id.0)) items) }
+
 -- the items after one more record
 abbrev pub with_kind : Kind → List (ℕ × Item) → ℕ → Item → List (ℕ × Item)
 with_kind (Folder child_count) items number item = insert_entry nat_cmp items number item
 with_kind (File digest) items number item = insert_entry nat_cmp items number item
+with_kind Bare items number item = insert_entry nat_cmp items number (known_item items item)
 with_kind Deleted items number item = remove_entry (is_at (nat_cmp number)) items
 
 abbrev pub with_record : List (ℕ × Item) → Item → List (ℕ × Item)
@@ -74,6 +92,12 @@ pub record IsLeastBad (all : List Node) (number : ℕ) : Type 0 where
 -- every number fits
 abbrev pub AllFit : List Node → Type 0
 AllFit all = (number : ℕ) → is_bad all number ≡ false
+
+-- a view is what was pulled, which fits
+pub record IsView (pulled : Pulled) (view : MirrorView) : Type 0 where
+  pub items : view.items ≡ values_of pulled.items
+  pub token : Some view.token ≡ pulled.last
+  pub fit : AllFit (nodes view.items)
 
 -- the items but the root, each at its path, in order of path
 abbrev pub paths_of : List Item → List (List (List ℕ) × Item)

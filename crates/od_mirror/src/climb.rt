@@ -30,6 +30,7 @@ fn is_folder_item(item: &Item) -> bool
     match item.kind {
         Kind::Folder { .. } => true,
         Kind::File { .. } => false,
+        Kind::Bare => false,
         Kind::Deleted => false,
     }
 }

@@ -6,9 +6,6 @@ mod laws;
 mod mirror;
 mod view;
 
-pub use laws::a_feed_gives_the_drive;
+pub use laws::{a_feed_gives_the_drive, a_first_pull_gives_the_drive, a_pull_gives_the_drive};
 pub use mirror::{Mirror, PullFault, Taken};
 pub use view::MirrorView;
-
-#[cfg(test)]
-mod tests;

@@ -5,10 +5,10 @@ use Rattle.gd_item.specs.declared.item.Item.{Item}
 use Rattle.gd_item.specs.declared.reply.Page.{Page}
 use Rattle.gd_item.specs.declared.request.Request.TheVariants.{Delta}
 use Rattle.gd_item.specs.declared.step.Step.{Step}
-use Rattle.od_mirror.specs.Pulled.{Pulled, begun, after_page, nodes, IsLeastBad}
+use Rattle.od_mirror.specs.Pulled.{Pulled, begun, after_page, nodes, IsView, IsLeastBad}
 use Rattle.od_mirror.specs.declared.view.MirrorView.{MirrorView}
 use Rattle.od_sync.specs.Deltas.{DeltaAsks, PageHeard}
-use Rattle.od_sync.specs.Pulls.{IsView, LastPage, Pulls, StopsBad}
+use Rattle.od_sync.specs.Pulls.{LastPage, Pulls, StopsBad}
 
 abbrev last-page : (token asked : Option (List ℕ)) (page : Page) (before after : Option (List Step)) → asked ≡ token → DeltaAsks (Delta asked) before after (Ok page)
     → (old : List Step) → before ≡ Some old → LastPage token old after

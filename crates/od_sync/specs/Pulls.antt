@@ -2,25 +2,17 @@
 use Rattle.std.specs.Prelude.{◌≡◌, ℕ, ◌-◌, ◌≤◌, true, List, ◌++◌, Option, Some, Result, OnOk, IsErrOf}
 use Rattle.std.specs.Map.{values_of}
 use Rattle.gd_names.specs.Streams.{Rose}
-use Rattle.gd_item.specs.Steps.{state_of, number_of}
-use Rattle.gd_item.specs.Tokens.{token_text}
 use Rattle.gd_item.specs.declared.id.ItemId.{ItemId}
 use Rattle.gd_item.specs.declared.item.Item.{Item}
 use Rattle.gd_item.specs.declared.reply.Page.{Page}
 use Rattle.gd_item.specs.declared.request.Request.TheVariants.{Delta}
 use Rattle.gd_item.specs.declared.step.Step.{Step}
-use Rattle.od_mirror.specs.Pulled.{Pulled, begun, after_page, nodes, AllFit, IsLeastBad}
+use Rattle.od_mirror.specs.Pulled.{begun, after_page, nodes, IsView, IsLeastBad}
 use Rattle.od_mirror.specs.declared.view.MirrorView.{MirrorView}
 use Rattle.od_transfer.specs.Asking.{RoseBy, is_last_link}
 use Rattle.od_sync.specs.Deltas.{PageHeard, EndsUnserved}
 use Rattle.od_sync.specs.declared.pulling.PullStop.{PullStop}
 use Rattle.od_sync.specs.declared.pulling.PullStop.TheVariants.{LinkFault, Unserved, BadPages}
-
--- a view is what was pulled
-pub record IsView (pulled : Pulled) (view : MirrorView) : Type 0 where
-  pub items : view.items ≡ values_of pulled.items
-  pub token : Some view.token ≡ pulled.last
-  pub fit : AllFit (nodes view.items)
 
 -- a last page that was heard, after sends without one
 pub record LastPage (token : Option (List ℕ)) (old : List Step) (after : Option (List Step)) : Type 0 where
@@ -59,9 +51,6 @@ pub record HasPullCause (faults_before faults_now answers_before answers_now row
   pub unserved : IsErrOf result Unserved → Rose answers_before answers_now
   pub together : IsErrOf result Unserved → (replies : ℕ) × (replies ≤ 3) × RoseBy replies answers_before answers_now × RoseBy (3 - replies) faults_before faults_now
 
--- the drive's log when it was asked for the page, and the token of a page that was given at its number, after everything
+-- the drive's log when it was asked for the page
 abbrev pub seen : {token : Option (List ℕ)} {after : Option (List Step)} → (old : List Step) → LastPage token old after → List Step
 seen old last = old ++ last.heard.part
-
-abbrev pub token_then : List Step → List ℕ
-token_then log = token_text (record { epoch = (state_of log).epoch; position = number_of log; start = number_of log })

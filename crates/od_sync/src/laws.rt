@@ -1,5 +1,5 @@
 //! Laws of the definitions, each the contract of a function that does nothing.
-ghost use Rattle.std.specs.Prelude.{◌≡◌, ℕ, ◌<◌, ◌≤◌, true, [], ◌∷◌, ◌++◌, length, map, None, Some, List, Option};
+ghost use Rattle.std.specs.Prelude.{◌≡◌, ℕ, ◌<◌, ◌≤◌, true, false, [], ◌∷◌, ◌++◌, length, map, None, Some, List, Option};
 ghost use Rattle.std.specs.List.{All};
 ghost use Rattle.gd_item.specs.Answers.{answer_of};
 ghost use Rattle.gd_item.specs.Steps.{state_of, held_by, accepted_by};
@@ -13,8 +13,9 @@ ghost use Rattle.gd_item.specs.declared.reply.Reply.{Reply};
 ghost use Rattle.gd_item.specs.declared.request.Request.{Request};
 ghost use Rattle.gd_item.specs.declared.step.Step.{Step};
 ghost use Rattle.gd_item.specs.declared.step.Who.{Who};
-ghost use Rattle.od_keeper.specs.Sound.{ItemsAre, uncounted};
+ghost use Rattle.gd_item.specs.Views.{ItemsAre, uncounted};
 ghost use Rattle.od_mirror.specs.Pulled.{paths_of};
+ghost use Rattle.od_mirror.specs.Pulls.{token_then};
 ghost use Rattle.od_mirror.specs.declared.view.MirrorView.{MirrorView};
 ghost use Rattle.od_transfer.specs.Alone.{AreOwnServed};
 ghost use Rattle.od_transfer.specs.Asking.{OwnAre};
@@ -22,26 +23,26 @@ ghost use Rattle.od_transfer.specs.Undisturbed.{is_servable};
 ghost use Rattle.od_sync.specs.Comparing.{is_same, scanned};
 ghost use Rattle.od_sync.specs.FreshPlans.{FreshPlan};
 ghost use Rattle.od_sync.specs.Planning.{planned_fetches, planned_folders};
-ghost use Rattle.od_sync.specs.Pulls.{PullsView, PullsBad, seen, token_then};
+ghost use Rattle.od_sync.specs.Pulls.{PullsView, PullsBad, seen};
 ghost use Rattle.od_sync.specs.Syncing.{IsSyncRequest};
 ghost use Rattle.od_tree.specs.Collisions.{NoCollision};
 ghost use Rattle.od_tree.specs.Local.{local_tree};
 ghost use Rattle.od_tree.specs.declared.step.LocalStep.{LocalStep};
 
-/// A first pull gives what the drive held when it was asked, and the token of that moment.
+/// A first pull gives what the drive held when it was asked, if it is not plain, and the token of that moment.
 pub fn a_first_pull_mirrors_the_drive()
     ensures items { (old : List Step) (after : Option (List Step)) (view : MirrorView) (pulled : PullsView [] None old after view)
-        → view.items ≡ records_of (held_by (seen old pulled.last)) }
+        → (state_of (seen old pulled.last)).plain ≡ false → view.items ≡ records_of (held_by (seen old pulled.last)) }
     ensures token { (old : List Step) (after : Option (List Step)) (view : MirrorView) (pulled : PullsView [] None old after view)
         → view.token ≡ token_then (seen old pulled.last) }
 {}
 
-/// A pull over the items and the token of a sound image gives what the drive held when it was asked, but for the numbers of
-/// children, and never bad items. What it gives is sound in turn.
+/// A pull over the items and the token of a sound image never gives bad items, and what it gives is sound in turn. Of a drive that is
+/// not plain it is what the drive held when it was asked, but for the numbers of children.
 pub fn a_pull_mirrors_the_drive()
     ensures items { (items : List Item) (token : Option (List ℕ)) (old : List Step) (after : Option (List Step)) (view : MirrorView)
         (pulled : PullsView items token old after view) → ItemsAre items old token
-        → map uncounted view.items ≡ map uncounted (records_of (held_by (seen old pulled.last))) }
+        → (state_of (seen old pulled.last)).plain ≡ false → map uncounted view.items ≡ map uncounted (records_of (held_by (seen old pulled.last))) }
     ensures sound { (items : List Item) (token : Option (List ℕ)) (old : List Step) (after : Option (List Step)) (view : MirrorView)
         (pulled : PullsView items token old after view) → ItemsAre items old token → ItemsAre view.items (seen old pulled.last) (Some view.token) }
     ensures never_bad { (items : List Item) (token : Option (List ℕ)) (old : List Step) (after : Option (List Step)) (number : ℕ)

@@ -2,11 +2,11 @@ ghost use Rattle.std.specs.Prelude.{◌≡◌, ℕ, true, IfOk, IsErrOf};
 ghost use Rattle.std.specs.Map.{values_of};
 ghost use Rattle.gd_item.specs.Ids.{item_id};
 ghost use Rattle.gd_item.specs.declared.request.Request.TheVariants.{Delta};
-ghost use Rattle.od_mirror.specs.Pulled.{after_page, nodes, AllFit, IsLeastBad};
+ghost use Rattle.od_mirror.specs.Pulled.{after_page, nodes, AllFit, IsLeastBad, IsView};
 ghost use Rattle.od_transfer.specs.Asking.{is_last_link};
 ghost use Rattle.od_transfer.specs.Undisturbed.{Undisturbed, MayBeServed};
 ghost use Rattle.od_sync.specs.Deltas.{AsksDelta};
-ghost use Rattle.od_sync.specs.Pulls.{IsView, Pulls, StopsBad, StopsUnserved, HasPullCause};
+ghost use Rattle.od_sync.specs.Pulls.{Pulls, StopsBad, StopsUnserved, HasPullCause};
 
 use crate::delta::{DeltaFault, ask_delta};
 use gd_item::{Item, ItemId, Page};

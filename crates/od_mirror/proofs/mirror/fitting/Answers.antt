@@ -1,11 +1,4 @@
-use Rattle.std.proofs.Common.{◌∙◌, refl}
-use Rattle.od_mirror.proofs.Rising.{rise-values, least-bad-is}
 use Rattle.od_mirror.proofs.mirror.fitting.Goals as goal
 
-pub first_bad-requires : goal.first_bad-requires
-first_bad-requires c =
-    rw (c.deref.ensures.value, c.in_ok-sorted.ensures.same) (rise-values c.args.items.entries c.in_ok-sorted.ensures.ordered c.requires)
-
-pub returns-in-Some-clause-bad : goal.returns-in-Some-clause-bad
-returns-in-Some-clause-bad c n is =
-    least-bad-is c.args.items.entries c.deref.result.now c.in-Some.number n (c.deref.ensures.value ∙ c.in_ok-sorted.ensures.same) (cc) (c.in-Some.ensures.some c.in-Some.number refl)
+pub returns-clause-bad : goal.returns-clause-bad
+returns-clause-bad c n is = rw (← c.in_ok-take_records.ensures.ok) (c.all_fitting.ensures.bad n is)

@@ -1,6 +1,6 @@
-use super::*;
 use gd_item::{Item, ItemId, Kind, Tag};
 use gd_names::{List, NoMemory, Path, Text};
+use od_keeper::{Agreed, BaseRow, Change, Keeper, KeeperFault, MemoryKeeper};
 use std::alloc::Global;
 use std::test::Fail;
 

@@ -1,10 +1,11 @@
-use super::*;
 use gd_item::{Digest, Item, ItemId, Kind, Page, PageLink, Tag};
 use gd_names::{List, NoMemory, Path, Text};
+use od_mirror::{Mirror, MirrorView, PullFault, Taken};
 use std::alloc::{AllocError, Global};
 use std::test::Fail;
 
-/// A record: its number, its parent's, its name, and `d` for a folder, `f` for a file or `x` for a deleted item.
+/// A record: its number, its parent's, its name, and `d` for a folder, `f` for a file, `b` for one without a digest or `x`
+/// for a deleted item.
 type Row = (u64, u64, &'static str, char);
 
 fn record(alloc: Global, (number, parent, name, kind): Row) -> Result<Item, NoMemory> {
@@ -13,6 +14,7 @@ fn record(alloc: Global, (number, parent, name, kind): Row) -> Result<Item, NoMe
         'f' => Kind::File {
             digest: Digest([0; 32]),
         },
+        'b' => Kind::Bare,
         _ => Kind::Deleted,
     };
     Ok(Item {
@@ -40,7 +42,7 @@ fn page(alloc: Global, rows: &[Row], link: PageLink) -> Result<Page, NoMemory> {
 }
 
 fn pulled(alloc: Global, first: &[Row], second: &[Row]) -> Result<MirrorView, PullFault> {
-    let mut mirror = Mirror::start(alloc, List::new(alloc), None)?;
+    let mut mirror = Mirror::start(alloc, List::new(alloc), None);
     let next = PageLink::Next(Text::from_str(alloc, "t1.3.3.1")?);
     let _more = mirror.take_page(&page(alloc, first, next)?)?;
     let delta = PageLink::Delta(Text::from_str(alloc, "t1.3.3")?);
@@ -133,9 +135,40 @@ fn a_mirror_begins_where_it_stood(rt: HostRuntime) -> Result<(), Fail> {
     let mut items = List::new(rt.alloc());
     items.push(record(rt.alloc(), (1, 0, "root", 'd'))?)?;
     let token = Text::from_str(rt.alloc(), "t1.2.2")?;
-    let mut mirror = Mirror::start(rt.alloc(), items, Some(token.clone()?))?;
+    let mut mirror = Mirror::start(rt.alloc(), items, Some(token.clone()?));
     assert!(rt; mirror.token() == Some(&token));
     mirror.gone();
     assert!(rt; mirror.token() == None);
+    Ok(())
+}
+
+/// The kind of the file 2 after a pull over it, whose eTag is `e1`, that gives it again without a digest.
+fn kind_after(alloc: Global, etag: &str) -> Result<Kind, Fail> {
+    let mut items = List::new(alloc);
+    items.push(record(alloc, (1, 0, "root", 'd'))?)?;
+    items.push(record(alloc, (2, 1, "a", 'f'))?)?;
+    let mut mirror = Mirror::start(alloc, items, Some(Text::from_str(alloc, "t1.2.2")?));
+    let mut bare = record(alloc, (2, 1, "a", 'b'))?;
+    bare.etag = Tag(Text::from_str(alloc, etag)?);
+    let mut records = List::new(alloc);
+    records.push(bare)?;
+    let link = PageLink::Delta(Text::from_str(alloc, "t1.3.2")?);
+    match mirror.take_page(&Page {
+        items: records,
+        link,
+    })? {
+        Taken::Last => match mirror.finish()?.items.as_slice() {
+            [_root, file] => Ok(file.kind),
+            _ => Ok(Kind::Deleted),
+        },
+        Taken::More => Ok(Kind::Deleted),
+    }
+}
+
+#[test]
+fn a_digest_is_known_while_the_etag_stands(rt: HostRuntime) -> Result<(), Fail> {
+    let digest = Digest([0; 32]);
+    assert_eq!(rt; kind_after(rt.alloc(), "e1")?, Kind::File { digest });
+    assert_eq!(rt; kind_after(rt.alloc(), "e2")?, Kind::Bare);
     Ok(())
 }
