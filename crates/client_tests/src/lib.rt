@@ -1,4 +1,4 @@
-//! Tests of the client's crates whose calls cross.
+//! Tests of the client over all its crates.
 #![tactic(auto)]
 
 #[cfg(test)]

@@ -79,7 +79,7 @@ read-step drive log who request served heard effects sessions stands =
     has-more drive log (Ask who request served heard) (either (is_accepted state request served))
 
 -- the reply to a request that is not refused, of a drive that is not plain
-answer-whole : (state : State) (size : ℕ) (request : Request) → state.plain ≡ false → refusal state request ≡ None → answer state size request ≡ reply_to state (after_request state Own request) size request
+pub answer-whole : (state : State) (size : ℕ) (request : Request) → state.plain ≡ false → refusal state request ≡ None → answer state size request ≡ reply_to state (after_request state Own request) size request
 answer-whole state size request whole none =
     ap (λ b. shown b (answer_unless (refusal state request) state size request)) whole ∙ ap (λ r. answer_unless r state size request) none
 

@@ -5,7 +5,7 @@ use Rattle.gd_item.specs.Sessions.{State, held}
 use Rattle.gd_item.specs.Steps.{state_of}
 use Rattle.gd_item.specs.declared.reply.Reply.{Reply}
 use Rattle.gd_item.specs.declared.request.Request.{Request}
-use Rattle.gd_item.specs.declared.request.Request.TheVariants.{Get, Children, MakeFolder, Put, Patch, Delete, Content, Download, OpenSession, Fragment, SessionStatus, CancelSession, Delta}
+use Rattle.gd_item.specs.declared.request.Request.TheVariants.{Get, Children, MakeFolder, Put, Patch, Delete, Content, Download, OpenSession, Fragment, SessionStatus, CancelSession, Finish, Delta}
 use Rattle.gd_item.specs.declared.step.Step.{Step}
 use Rattle.gd_api.specs.Drives.{is_about_session}
 use Rattle.gd_api.specs.WholePage.{answer_now}
@@ -24,10 +24,11 @@ plain (Patch at name parent condition) h = refl
 plain (Delete at condition) h = refl
 plain (Content at) h = refl
 plain (Download id version) h = refl
-plain (OpenSession at name behaviour condition) h = absurd cc
+plain (OpenSession at name behaviour condition defer) h = absurd cc
 plain (Fragment session first last total bytes) h = absurd cc
 plain (SessionStatus session) h = absurd cc
 plain (CancelSession session) h = absurd cc
+plain (Finish session) h = absurd cc
 plain (Delta token) h = refl
 
 -- and is answered as it is defined
@@ -40,10 +41,11 @@ as-defined state size (Patch at name parent condition) h = refl
 as-defined state size (Delete at condition) h = refl
 as-defined state size (Content at) h = refl
 as-defined state size (Download id version) h = refl
-as-defined state size (OpenSession at name behaviour condition) h = refl
+as-defined state size (OpenSession at name behaviour condition defer) h = refl
 as-defined state size (Fragment session first last total bytes) h = refl
 as-defined state size (SessionStatus session) h = refl
 as-defined state size (CancelSession session) h = refl
+as-defined state size (Finish session) h = refl
 as-defined state size (Delta token) h = absurd cc
 
 -- the request was asked, and its refusal printed

@@ -1,10 +1,12 @@
 -- Each line leads a run on.
-use Rattle.std.proofs.Common.{◌≡◌, ℕ, List, ◌++◌, length, drop, Option, Some, None, refl, sym, ap, ◌∙◌, subst}
+use Rattle.std.proofs.Common.{◌≡◌, ℕ, true, List, [], ◌∷◌, ◌++◌, length, drop, Option, Some, None, refl, sym, ap, ◌∙◌, subst}
 use Rattle.std.proofs.lemmas.List.{append-nil}
 use Rattle.gd_item.specs.Sessions.{held}
 use Rattle.gd_item.specs.Steps.{state_of}
 use Rattle.gd_item.specs.declared.request.Request.{Request}
 use Rattle.gd_item.specs.declared.step.Step.{Step}
+use Rattle.gd_item.specs.declared.step.Step.TheVariants.{Ask}
+use Rattle.gd_item.specs.declared.step.Who.TheVariants.{Other}
 use Rattle.od_keeper.specs.Keeping.{last_image}
 use Rattle.od_keeper.specs.declared.image.Image.{Image}
 use Rattle.od_keeper.specs.declared.memory.MemoryKeeper.{MemoryKeeper}
@@ -12,7 +14,7 @@ use Rattle.od_tree.specs.Memory as tree
 use Rattle.od_tree.specs.declared.memory.MemoryTree.{MemoryTree}
 use Rattle.od_tree.specs.declared.step.LocalStep.{LocalStep}
 use Rattle.od_sync.specs.Syncs.{HasServable}
-use Rattle.od_sync.proofs.PageTokens.{others_keep_servable}
+use Rattle.gd_laws.proofs.Tokens.{served-stays}
 use Rattle.od_cli.specs.Played.{line_steps, line_text, request_of, request_steps}
 use Rattle.od_cli.specs.Plays.{Plays}
 use Rattle.od_cli.specs.Runs.{Run, Goes, local_text, requests_text}
@@ -24,7 +26,7 @@ use Rattle.od_cli.specs.declared.line.Line.TheVariants.{Local, Requests}
 -- what a line adds leaves a token served
 still-servable : (image : Image) (log : List Step) (asked : Option Request) → HasServable image log → HasServable image (log ++ request_steps asked)
 still-servable image log None servable = subst (HasServable image) (sym (append-nil log)) servable
-still-servable image log (Some request) servable = others_keep_servable log request image.token servable
+still-servable image log (Some request) servable = served-stays log (Ask Other request true true ∷ []) image.token refl servable
 
 -- a line of other clients, a pull or `drive`
 module _ (before after : WorldValue) (folder : MemoryTree) (kept : MemoryKeeper) (counted : ℕ) (line given : Line) (old new : List ℕ) (is : given ≡ line)

@@ -8,7 +8,6 @@ pub mod Playing
 pub mod Prints
 pub mod Pulls
 pub mod Reading
-pub mod Removals
 pub mod Replies
 pub mod Scripts
 pub mod Shown

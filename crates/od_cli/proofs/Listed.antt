@@ -1,5 +1,5 @@
 -- What a drive lists lives on it, and a file has its bytes there.
-use Rattle.std.proofs.Common.{◌≡◌, ℕ, zero, suc, ◌<◌, true, false, ◌||◌, not, cond, nat_eq, List, [], ◌∷◌, Option, Some, None, is_some, is_none, Result, Ok, Err, IfErr, inl, inr, refl, sym, ap, ◌∙◌, subst, eq-eqb, arith}
+use Rattle.std.proofs.Common.{◌≡◌, ℕ, zero, suc, ◌<◌, true, false, ◌||◌, not, cond, nat_eq, List, [], ◌∷◌, Option, Some, None, is_some, is_none, Result, Ok, Err, IfOk, IfErr, inl, inr, refl, sym, ap, ◌∙◌, subst, eq-eqb, arith}
 use Rattle.std.specs.List.{All, AllByRecursion}
 use Rattle.std.specs.Map.{values_of}
 use Rattle.std.specs.Option.{option_map}
@@ -17,15 +17,17 @@ use Rattle.gd_item.specs.declared.digest.Digest.{Digest}
 use Rattle.gd_item.specs.declared.fault.StoreFault.{StoreFault}
 use Rattle.gd_item.specs.declared.fault.StoreFault.TheVariants.{Memory, NotFound, NotFile}
 use Rattle.gd_item.specs.declared.item.Item.{Item}
-use Rattle.gd_item.specs.declared.item.Kind.TheVariants.{File}
+use Rattle.gd_item.specs.declared.item.Kind.TheVariants.{File, Bare, Deleted}
 use Rattle.gd_item.specs.declared.live.LiveItem.{LiveItem}
 use Rattle.gd_store.specs.Stands as store
 use Rattle.gd_names.proofs.Each.{each, each-both}
+use Rattle.gd_names.proofs.Small.{not-root}
 use Rattle.gd_names.proofs.Ordered.{all-in-order-from}
-use Rattle.gd_store.proofs.Climbs.{node_at-live}
-use Rattle.od_mirror.specs.Drive.{placed_items}
+use Rattle.gd_laws.proofs.Found.{node-of-live}
+use Rattle.gd_store.proofs.Given.{given-ok}
+use Rattle.gd_laws.specs.Placed.{placed_items}
 use Rattle.od_mirror.specs.Pulled.{paths_of, with_records}
-use Rattle.od_mirror.proofs.Mapped.{mapped}
+use Rattle.gd_names.proofs.Mapped.{mapped}
 use Rattle.od_mirror.proofs.Standing.{paths-of-placed}
 use Rattle.od_cli.specs.Pulled.{whole_items, AreListed, IsFileAt, IsListed}
 use Rattle.od_cli.proofs.Pulls.{records-are, sound-of}
@@ -90,15 +92,29 @@ file-at held item digest listed is =
     let P : ℕ → Type 0 = λ n. IsFileAt held n in
     subst P same (record { live = live; bytes = bytes.0; above = listed.above; there = listed.there; bytes_are = bytes.1 })
 
--- it is no folder, and has a version
-not-one : (n : ℕ) → 1 < n → nat_eq n 1 ≡ false
-not-one n above = grind (arith, nat_tests)
+-- what is listed is neither bare nor deleted
+kind-bare : (bytes : Option (List ℕ)) (number : ℕ) (items : List LiveItem) → kind_at bytes number items ≡ Bare → ⊥
+kind-bare None number items is = cc is
+kind-bare (Some bytes) number items is = cc is
 
+kind-deleted : (bytes : Option (List ℕ)) (number : ℕ) (items : List LiveItem) → kind_at bytes number items ≡ Deleted → ⊥
+kind-deleted None number items is = cc is
+kind-deleted (Some bytes) number items is = cc is
+
+pub never-bare : (held : Inventory) (item : Item) → IsListed held item → item.kind ≡ Bare → ⊥
+never-bare held item listed is =
+    kind-bare listed.live.bytes listed.live.number held.items (ap (λ (i : Item). i.kind) (sym listed.item_is) ∙ is)
+
+pub never-deleted : (held : Inventory) (item : Item) → IsListed held item → item.kind ≡ Deleted → ⊥
+never-deleted held item listed is =
+    kind-deleted listed.live.bytes listed.live.number held.items (ap (λ (i : Item). i.kind) (sym listed.item_is) ∙ is)
+
+-- it is no folder, and has a version
 pub no-refusal : (held : Inventory) (number : ℕ) → IsFileAt held number → file_refusal held number ≡ None
 no-refusal held number file =
-    let at : node_at number (nodes_of held) ≡ Some (live_node file.live) = node_at-live number held.items ∙ ap (option_map live_node) file.there in
+    let at : node_at number (nodes_of held) ≡ Some (live_node file.live) = node-of-live number held.items ∙ ap (option_map live_node) file.there in
     ap (λ (node : Option Node). first_cause ((not (nat_eq number 1 || is_some node), NotFound) ∷ (nat_eq number 1 || is_some_folder node, NotFile) ∷ [])) at
-    ∙ ap (λ b. first_cause ((not (b || true), NotFound) ∷ (b || is_none file.live.bytes, NotFile) ∷ [])) (not-one number file.above)
+    ∙ ap (λ b. first_cause ((not (b || true), NotFound) ∷ (b || is_none file.live.bytes, NotFile) ∷ [])) (not-root number file.above)
     ∙ ap (λ (bytes : Option (List ℕ)). cond (is_none bytes) (Some NotFile) None) file.bytes_are
 
 pub has-version : (held : Inventory) (number : ℕ) (file : IsFileAt held number) → version_at number (content_at number held) held ≡ Some file.bytes
@@ -117,3 +133,21 @@ memory-alone refusal (Err fault) Done answers none = elim answers.err [
 
 pub never-missing : (held : Inventory) (number content : ℕ) → IsFileAt held number → content ≡ content_at number held → missing (version_at number content held) ≡ None
 never-missing held number content file is = ap (λ c. missing (version_at number c held)) is ∙ ap missing (has-version held number file)
+
+-- the content number that a store gives is that of the file
+pub content-is : (held : Inventory) (number content : ℕ) → Ok content ≡ store.given_unless (file_refusal held number) (content_at number held) → content ≡ content_at number held
+content-is held number content is = (given-ok (file_refusal held number) content (content_at number held) is).1
+
+pub never-refused : (held : Inventory) (number : ℕ) (fault : StoreFault) → IsFileAt held number → Err fault ≡ store.given_unless (file_refusal held number) (content_at number held) → ⊥
+never-refused held number fault file is =
+    let given : Err fault ≡ Ok (content_at number held) = is ∙ ap (λ refusal. store.given_unless refusal (content_at number held)) (no-refusal held number file) in
+    cc given
+
+-- the bytes of that version are those that stand in it
+pub version-found : (value : Inventory) (number content : ℕ) (result : Result (List ℕ) StoreFault)
+    → ((log : List Effect) → store.Stands value log → store.Answers (missing (version_at number content (inventory log))) result (λ bytes. version_at number content (inventory log) ≡ Some bytes))
+    → ((log : List Effect) → store.Stands value log → content ≡ content_at number (inventory log))
+    → IfOk result (λ bytes. (log : List Effect) → store.Stands value log → version_at number (content_at number (inventory log)) (inventory log) ≡ Some bytes)
+version-found value number content (Ok bytes) answers is =
+    λ log stands. ap (λ c. version_at number c (inventory log)) (sym (is log stands)) ∙ (answers log stands).ok.1
+version-found value number content (Err fault) answers is = tt

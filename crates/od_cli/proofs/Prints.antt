@@ -13,9 +13,9 @@ use Rattle.gd_item.specs.Sound.{IsItemMap}
 use Rattle.gd_store.specs.Stands as store
 use Rattle.std.specs.Map.{values_of}
 use Rattle.gd_item.specs.Records.{records_of}
-use Rattle.od_mirror.specs.Drive.{placed_items}
+use Rattle.gd_laws.specs.Placed.{placed_items}
 use Rattle.od_mirror.specs.Pulled.{paths_of, with_records}
-use Rattle.od_mirror.proofs.Mapped.{mapped}
+use Rattle.gd_names.proofs.Mapped.{mapped}
 use Rattle.od_mirror.proofs.Standing.{paths-of-placed, tree-of-placed}
 use Rattle.od_cli.specs.Played.{entry_line, pull_text}
 use Rattle.od_cli.specs.Pulled.{item_line, kind_line, whole_items}

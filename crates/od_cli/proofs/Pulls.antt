@@ -1,8 +1,6 @@
 -- A fresh pull gives what the drive holds.
-use Rattle.std.proofs.Common.{◌≡◌, ℕ, ◌+◌, ◌-◌, ◌≤◌, Bool, true, false, cond, nat_lt, List, [], length, slice_index, is_some, Option, Some, None, refl, sym, ap, ◌∙◌, subst, arith}
-use Rattle.std.proofs.lemmas.List.{take_all}
-use Rattle.std.proofs.lemmas.Map.Entries.{length-values_of}
-use Rattle.std.specs.Map.{keys_of, values_of}
+use Rattle.std.proofs.Common.{◌≡◌, ℕ, ◌+◌, true, false, List, [], length, Option, None, refl, sym, ap, ◌∙◌, subst}
+use Rattle.std.specs.Map.{values_of}
 use Rattle.gd_item.specs.Inventory.{Inventory, Effect, inventory}
 use Rattle.gd_item.specs.Records.{feed, first_of, last_of}
 use Rattle.gd_item.specs.Sound.{IsItemMap}
@@ -17,32 +15,17 @@ use Rattle.gd_item.specs.declared.request.Request.TheVariants.{Delta}
 use Rattle.gd_item.specs.declared.step.Step.{Step}
 use Rattle.gd_item.proofs.Effects.{number-inventory}
 use Rattle.gd_api.specs.WholePage.{answer_now}
+use Rattle.gd_api.proofs.OnePage.{all-given}
+use Rattle.gd_laws.proofs.Marks.{is-marked}
 use Rattle.gd_store.specs.Stands as store
-use Rattle.gd_store.proofs.Allowed.{not-below}
 use Rattle.gd_item.specs.Records.{records_of}
 use Rattle.od_mirror.specs.Pulled.{Pulled, begun, after_link, after_page, with_records, nodes, is_bad, IsLeastBad, taken_of}
 use Rattle.od_mirror.specs.declared.mirror.Taken.{Taken}
 use Rattle.od_mirror.specs.declared.mirror.Taken.TheVariants.{Last, More}
-use Rattle.od_mirror.proofs.Feed.{feed-from-start}
+use Rattle.od_mirror.proofs.Pulling.{feed-gives-all, link-items}
 use Rattle.od_mirror.proofs.Standing.{records-fit}
 use Rattle.od_cli.specs.Pulled.{whole_items, IsWhole}
 use Rattle.od_cli.specs.Worlds.{page_size}
-use Rattle.od_cli.proofs.Removals.{no-removals}
-
-none-given : (b : Bool) (x : ℕ) → cond b (Some x) None ≡ None → b ≡ false
-none-given true x h = absurd cc
-none-given false x h = refl
-
-pub not-some : {T : Type 0} (found : Option T) → is_some found ≡ false → found ≡ None
-not-some None h = refl
-not-some (Some x) h = absurd cc
-
--- where no more follow all were given
-pub all-given : (most : ℕ) (changes : List (ℕ × Item)) → last_of most changes ≡ None → first_of most changes ≡ values_of changes
-all-given most changes none =
-    let few : length changes ≤ most = not-below most (length changes) (none-given (nat_lt most (length changes)) (slice_index (keys_of changes) (most - 1)) none) in
-    let same : length (values_of changes) ≡ length changes = length-values_of changes in
-    take_all most (values_of changes) (omega arith)
 
 -- the records are those of a fresh enumeration
 pub items-are : (items : List Item) (more : Option ℕ) (number most : ℕ) (log : List Effect) → number ≡ length log + 1
@@ -57,32 +40,29 @@ sound-of held log stands = subst IsItemMap stands.held stands.sound
 
 -- a store's page of a fresh enumeration is one of a drive
 pub whole-of : (page : Page) (held : Inventory) (log : List Effect) → store.Stands held log → page.items ≡ whole_items (inventory log) → taken_of page.link ≡ Last → IsWhole page
-whole-of page held log stands is last = record { drive = inventory log; sound = sound-of held log stands; no_removals = no-removals log 0; items = is; last = last }
-
-after-link : (items : List (ℕ × Item)) (l : PageLink) → (after_link items l).items ≡ items
-after-link items (link.Next token) = refl
-after-link items (link.Delta token) = refl
+whole-of page held log stands is last = record { effects = log; sound = sound-of held log stands; items = is; last = last }
 
 -- what was pulled is what the page has
 pub pulled-is : (none : List Item) (page : Page) (before after : Pulled) → none ≡ [] → before ≡ begun none None → after ≡ after_page before page → values_of after.items ≡ values_of (with_records [] page.items)
 pulled-is none page before after empty start taken =
-    ap (λ (p : Pulled). values_of p.items) taken ∙ ap values_of (after-link (with_records before.items page.items) page.link)
+    ap (λ (p : Pulled). values_of p.items) taken ∙ ap values_of (link-items (with_records before.items page.items) page.link)
     ∙ ap (λ (p : Pulled). values_of (with_records p.items page.items)) (start ∙ ap (λ (xs : List Item). begun xs None) empty)
 
 -- the records of a fresh enumeration give what the drive holds
 pub records-are : (items : List Item) (held : Inventory) (log : List Effect) → store.Stands held log → items ≡ whole_items (inventory log) → values_of (with_records [] items) ≡ records_of (inventory log)
 records-are items held log stands is =
-    ap (λ (xs : List Item). values_of (with_records [] xs)) is ∙ feed-from-start (inventory log) (sound-of held log stands) (inventory log).number (no-removals log 0)
+    ap (λ (xs : List Item). values_of (with_records [] xs)) is ∙ feed-gives-all (inventory log) (sound-of held log stands) (is-marked log) (inventory log).number
 
 -- so its pages are never bad
 pub never-bad : (page : Page) (after : Pulled) (number : ℕ) → IsWhole page → values_of after.items ≡ values_of (with_records [] page.items) → IsLeastBad (nodes (values_of after.items)) number → ⊥
 never-bad page after number whole is bad =
-    let gives : values_of (with_records [] page.items) ≡ records_of whole.drive =
-    ap (λ (xs : List Item). values_of (with_records [] xs)) whole.items ∙ feed-from-start whole.drive whole.sound whole.drive.number whole.no_removals in
-    let fit : is_bad (nodes (records_of whole.drive)) number ≡ false = records-fit whole.drive whole.sound number in
-    let here : is_bad (nodes (values_of after.items)) number ≡ is_bad (nodes (records_of whole.drive)) number = ap (λ (xs : List Item). is_bad (nodes xs) number) (is ∙ gives) in
+    let drive : Inventory = inventory whole.effects in
+    let gives : values_of (with_records [] page.items) ≡ records_of drive =
+    ap (λ (xs : List Item). values_of (with_records [] xs)) whole.items ∙ feed-gives-all drive whole.sound (is-marked whole.effects) drive.number in
+    let fit : is_bad (nodes (records_of drive)) number ≡ false = records-fit drive whole.sound number in
+    let here : is_bad (nodes (values_of after.items)) number ≡ is_bad (nodes (records_of drive)) number = ap (λ (xs : List Item). is_bad (nodes xs) number) (is ∙ gives) in
     let yes : is_bad (nodes (values_of after.items)) number ≡ true = bad.bad in
-    cc
+    cc (yes, here, fit)
 
 page-items : Reply → List Item
 page-items (reply.Page page) = page.items
@@ -100,4 +80,4 @@ page-is log r page is found = ap page-items (sym is ∙ found)
 pub page-whole : (log : List Step) (r : Reply) (page : Page) → r ≡ reply.Page page → r ≡ answer_now (state_of log) page_size (Delta None) → IsItemMap (held_by log) → IsWhole page
 unfolding page-taken
 page-whole log r page is found sound =
-    record { drive = held_by log; sound = sound; no_removals = no-removals (state_of log).effects 0; items = page-is log r page is found; last = ap page-taken (sym is ∙ found) }
+    record { effects = (state_of log).effects; sound = sound; items = page-is log r page is found; last = ap page-taken (sym is ∙ found) }

@@ -19,9 +19,9 @@ use Rattle.gd_names.proofs.Each.{AllPairs-tail, each-later, each-both}
 use Rattle.gd_item.proofs.Effects.{number-inventory}
 use Rattle.gd_store.specs.Stands as store
 use Rattle.gd_item.specs.Records.{records_of}
-use Rattle.od_mirror.specs.Drive.{placed_items}
+use Rattle.gd_laws.specs.Placed.{placed_items}
 use Rattle.od_mirror.specs.Pulled.{paths_of, with_records}
-use Rattle.od_mirror.proofs.Mapped.{mapped, in-order-mapped}
+use Rattle.gd_names.proofs.Mapped.{mapped, in-order-mapped}
 use Rattle.od_mirror.proofs.Standing.{paths-of-placed, tree-of-placed}
 use Rattle.od_cli.specs.Played.{content_line, drive_text}
 use Rattle.od_cli.specs.Plays.{Plays}

@@ -6,11 +6,12 @@ use Rattle.std.proofs.lemmas.Bool.Decides.{nat_tests}
 use Rattle.std.proofs.lemmas.List.{take_all}
 use Rattle.std.proofs.lemmas.Map.Entries.{length-values_of}
 use Rattle.gd_names.specs.Causes.{first_cause}
-use Rattle.gd_item.specs.Answers.{answer, about, answer_unless, content_reply, delta_reply, found_reply}
+use Rattle.gd_item.specs.Answers.{answer, about, answer_unless, content_reply, delta_reply, found_reply, shown}
 use Rattle.gd_item.specs.Inventory.{Inventory, live_at}
 use Rattle.gd_item.specs.Pages.{Past, Latest, Bad, Lost, asked, asked_unless, asked_by_token, is_bad, page_link, page_past}
 use Rattle.gd_item.specs.Records.{feed, first_of, last_of}
 use Rattle.gd_item.specs.Faults.{code_of, status_of}
+use Rattle.gd_item.specs.Replies.{has_status}
 use Rattle.gd_item.specs.Refused.{Refusal, at_target, by_store, refuse, refusal}
 use Rattle.gd_item.specs.Refusals.{file_refusal, missing}
 use Rattle.gd_item.specs.Sessions.{State, held}
@@ -29,7 +30,7 @@ use Rattle.gd_item.specs.declared.reply.Reply.{Reply}
 use Rattle.gd_item.specs.declared.reply.Reply.TheVariants as reply
 use Rattle.gd_item.specs.declared.reply.Resync.TheVariants.{ApplyDifferences, UploadDifferences}
 use Rattle.gd_item.specs.declared.request.Request.{Request}
-use Rattle.gd_item.specs.declared.request.Request.TheVariants.{Get, Children, MakeFolder, Put, Patch, Delete, Content, Download, OpenSession, Fragment, SessionStatus, CancelSession, Delta}
+use Rattle.gd_item.specs.declared.request.Request.TheVariants.{Get, Children, MakeFolder, Put, Patch, Delete, Content, Download, OpenSession, Fragment, SessionStatus, CancelSession, Finish, Delta}
 use Rattle.gd_item.specs.declared.step.Step.{Step}
 use Rattle.gd_item.specs.declared.step.Step.TheVariants.{Ask}
 use Rattle.gd_item.specs.declared.step.Who.{Who}
@@ -37,8 +38,10 @@ use Rattle.gd_item.specs.declared.step.Who.TheVariants.{Own}
 use Rattle.gd_item.specs.declared.token.Token.{Token}
 use Rattle.gd_api.specs.Drives.{DriveValue, Stands, Handles, is_about_session, is_refusal}
 use Rattle.gd_api.specs.WholePage.{answer_now, page_for_token, whole_delta, whole_page}
-use Rattle.od_transfer.specs.Asking.{has_status, may_answer_content, may_answer_download, may_answer_delta}
-use Rattle.od_transfer.specs.Undisturbed.{is_page, is_servable}
+use Rattle.gd_api.proofs.Handling.{answer-whole}
+use Rattle.gd_laws.specs.Served.{is_page}
+use Rattle.od_transfer.specs.Asking.{IsPageSize, may_answer, may_answer_content, may_answer_download, may_answer_delta}
+use Rattle.od_transfer.specs.Undisturbed.{is_servable}
 use Rattle.od_cli.specs.Worlds.{WorldValue, IsDriveOf, IsOwnReply, heard, is_no_page, is_want_of_memory, page_size, unheard}
 
 -- the refusal of a token
@@ -112,36 +115,39 @@ pub past-or-none : (state : State) (token : Option (List ℕ)) → state.epoch �
 past-or-none state None first kept = inl (0, (held state).number, refl, refl)
 past-or-none state (Some text) first kept = by-text state text (pointwise nat_eq text (codes "latest")) refl first kept
 
-not-below-self : (n : ℕ) → nat_lt n n ≡ false
-not-below-self n = grind (arith, nat_tests)
-
 -- the answer to such a token
-past-answer : (state : State) (size : ℕ) (token : Option (List ℕ)) (position start : ℕ) → asked state token ≡ Past position start → answer state size (Delta token) ≡ reply.Page (page_past state position start size)
-past-answer state size token position start is =
-    ap (λ a. answer_unless (cond (is_bad a) (Some (refuse 400 InvalidRequest)) None) state size (Delta token)) is ∙ ap (delta_reply state size) is
+past-answer : (state : State) (size : ℕ) (token : Option (List ℕ)) (position start : ℕ) → state.plain ≡ false → asked state token ≡ Past position start
+    → answer state size (Delta token) ≡ reply.Page (page_past state position start size)
+past-answer state size token position start whole is =
+    answer-whole state size (Delta token) whole (ap (λ a. cond (is_bad a) (Some (refuse 400 InvalidRequest)) None) is) ∙ ap (delta_reply state size) is
 
--- a page of the whole feed is one of the size of the feed
-whole-is : (state : State) (position start : ℕ) → state.epoch ≡ 1
-    → whole_page (held state) position start ≡ reply.Page (page_past state position start (length (feed (held state) position start)))
-whole-is state position start first =
+-- a page that has room for the whole feed has it
+not-less : (n size : ℕ) → n ≤ size → nat_lt size n ≡ false
+not-less n size few = grind (arith, nat_tests)
+
+whole-is : (state : State) (position start size : ℕ) → length (feed (held state) position start) ≤ size → state.epoch ≡ 1
+    → whole_page (held state) position start ≡ reply.Page (page_past state position start size)
+whole-is state position start size few first =
     let changes : List (ℕ × Item) = feed (held state) position start in
-    let all : values_of changes ≡ first_of (length changes) changes =
-    sym (take_all (length changes) (values_of changes) (let same : length (values_of changes) ≡ length changes = length-values_of changes in omega arith)) in
-    let last : None ≡ last_of (length changes) changes = ap (λ b. cond b (Some (slice_index (keys_of changes) (length changes - 1))) None) (sym (not-below-self (length changes))) in
+    let all : values_of changes ≡ first_of size changes =
+    sym (take_all size (values_of changes) (let same : length (values_of changes) ≡ length changes = length-values_of changes in omega arith)) in
+    let last : None ≡ last_of size changes = ap (λ b. cond b (Some (slice_index (keys_of changes) (size - 1))) None) (sym (not-less (length changes) size few)) in
     let at : List Item → ℕ → Option ℕ → Reply = λ items epoch more. reply.Page (record { items = items; link = page_link epoch start (held state).number more }) in
     λ i. at (all i) (sym first i) (last i)
 
-delta-reply : (state : State) (token : Option (List ℕ)) (given : Reply) → state.epoch ≡ 1 → state.floor ≡ 0 → given ≡ whole_delta (held state) token → is_no_page (Delta token) given ≡ false
+delta-reply : (state : State) (token : Option (List ℕ)) (given : Reply) → state.epoch ≡ 1 → state.floor ≡ 0 → state.plain ≡ false → given ≡ whole_delta (held state) token → is_no_page (Delta token) given ≡ false
     → IsOwnReply state (Delta token) given
-delta-reply state token given first kept is page = elim (past-or-none state token first kept) [
+delta-reply state token given first kept whole is page = elim (past-or-none state token first kept) [
   | inl past ↦
       let position : ℕ = past.0 in
       let start : ℕ = past.1 in
-      let size : ℕ = length (feed (held state) position start) in
-      let whole : given ≡ reply.Page (page_past state position start size) = is ∙ past.3 ∙ whole-is state position start first in
+      let size : ℕ = max 1 (length (feed (held state) position start)) in
+      let same : given ≡ reply.Page (page_past state position start size) = is ∙ past.3 ∙ whole-is state position start size (omega arith) first in
       record {
         size = size;
-        reply_is = whole ∙ sym (past-answer state size token position start past.2);
+        fits = omega arith;
+        plain = whole;
+        reply_is = same ∙ sym (past-answer state size token position start whole past.2);
         kind = ap may_answer_delta (is ∙ past.3);
       }
   | inr none ↦ absurd (let refused : is_no_page (Delta token) given ≡ true = ap (is_no_page (Delta token)) (is ∙ none.1) in cc)
@@ -199,22 +205,26 @@ download-unless : (state : State) (size : ℕ) (id : ItemId) (version : ℕ) (ca
 download-unless state size id version None has = bytes-kind (version_at id.0 version (held state))
 download-unless state size id version (Some cause) has = has
 
-own-reply : (state : State) (request : Request) (given : Reply) → state.epoch ≡ 1 → state.floor ≡ 0 → given ≡ answer_now state page_size request → is_no_page request given ≡ false → IsOwnReply state request given
-own-reply state (Delta token) given first kept is page = delta-reply state token given first kept is page
-own-reply state (Content at) given first kept is page =
-    record { size = page_size; reply_is = is; kind = ap may_answer_content is ∙ content-unless state page_size at (refusal state (Content at)) (store-status (at_target (file_refusal (held state)) (target_of (held state) at))) }
-own-reply state (Download id version) given first kept is page =
-    record { size = page_size; reply_is = is; kind = ap may_answer_download is ∙ download-unless state page_size id version (refusal state (Download id version)) (store-status (missing (version_at id.0 version (held state)))) }
-own-reply state (Get at) given first kept is page = record { size = page_size; reply_is = is; kind = refl }
-own-reply state (Children at earlier) given first kept is page = record { size = page_size; reply_is = is; kind = refl }
-own-reply state (MakeFolder at name behaviour) given first kept is page = record { size = page_size; reply_is = is; kind = refl }
-own-reply state (Put at bytes behaviour condition) given first kept is page = record { size = page_size; reply_is = is; kind = refl }
-own-reply state (Patch at name parent condition) given first kept is page = record { size = page_size; reply_is = is; kind = refl }
-own-reply state (Delete at condition) given first kept is page = record { size = page_size; reply_is = is; kind = refl }
-own-reply state (OpenSession at name behaviour condition) given first kept is page = record { size = page_size; reply_is = is; kind = refl }
-own-reply state (Fragment session first_byte last total bytes) given first kept is page = record { size = page_size; reply_is = is; kind = refl }
-own-reply state (SessionStatus session) given first kept is page = record { size = page_size; reply_is = is; kind = refl }
-own-reply state (CancelSession session) given first kept is page = record { size = page_size; reply_is = is; kind = refl }
+-- an answer of a drive that is not plain
+unshown : (state : State) (size : ℕ) (request : Request) → state.plain ≡ false → answer state size request ≡ answer_unless (refusal state request) state size request
+unshown state size request whole = ap (λ b. shown b (answer_unless (refusal state request) state size request)) whole
+
+other-kind : (state : State) (request : Request) (given : Reply) → state.plain ≡ false → ((token : Option (List ℕ)) → request ≡ Delta token → ⊥) → given ≡ answer_now state page_size request → may_answer request given ≡ true
+other-kind state (Delta token) given whole other is = absurd (other token refl)
+other-kind state (Content at) given whole other is =
+    ap may_answer_content (is ∙ unshown state page_size (Content at) whole)
+    ∙ content-unless state page_size at (refusal state (Content at)) (store-status (at_target (file_refusal (held state)) (target_of (held state) at)))
+other-kind state (Download id version) given whole other is =
+    ap may_answer_download (is ∙ unshown state page_size (Download id version) whole)
+    ∙ download-unless state page_size id version (refusal state (Download id version)) (store-status (missing (version_at id.0 version (held state))))
+other-kind state request given whole other is = refl
+
+other-reply : (state : State) (request : Request) (given : Reply) → state.plain ≡ false → IsPageSize request page_size → given ≡ answer state page_size request → may_answer request given ≡ true → IsOwnReply state request given
+other-reply state request given whole fits is kind = record { size = page_size; fits = fits; plain = whole; reply_is = is; kind = kind }
+
+own-reply : (state : State) (request : Request) (given : Reply) → state.epoch ≡ 1 → state.floor ≡ 0 → state.plain ≡ false → given ≡ answer_now state page_size request → is_no_page request given ≡ false → IsOwnReply state request given
+own-reply state (Delta token) given first kept whole is page = delta-reply state token given first kept whole is page
+own-reply state request given first kept whole is page = other-reply state request given whole (omega arith, omega arith) is (other-kind state request given whole (λ token same. cc same) is)
 
 -- what the drive's call says of a reply that is no want of memory
 pub record IsServed (after : DriveValue) (log : List Step) (request : Request) (given : Reply) : Type 0 where
@@ -235,7 +245,7 @@ module _ (before after : DriveValue) (log : List Step) (request : Request) (give
   served = served-by before after log request given drive.size (handled log drive.stands plain) memory
 
   pub replied : is_no_page request given ≡ false → IsOwnReply (state_of log) request given
-  replied page = own-reply (state_of log) request given drive.stands.epoch drive.stands.floor served.reply_is page
+  replied page = own-reply (state_of log) request given drive.stands.epoch drive.stands.floor drive.stands.plain served.reply_is page
 
   pub not-servable : is_no_page request given ≡ true → is_servable (state_of log) request ≡ false
   not-servable none = unservable (state_of log) request given drive.stands.epoch drive.stands.floor served.reply_is none
@@ -263,10 +273,11 @@ after-no-page before after log now request given drive kept none same = as-befor
 
 -- a request about an upload session may not be served
 pub session-unservable : (state : State) (request : Request) → is_about_session request ≡ true → is_servable state request ≡ false
-session-unservable state (OpenSession at name behaviour condition) is = refl
+session-unservable state (OpenSession at name behaviour condition defer) is = refl
 session-unservable state (Fragment session first last total bytes) is = refl
 session-unservable state (SessionStatus session) is = refl
 session-unservable state (CancelSession session) is = refl
+session-unservable state (Finish session) is = refl
 session-unservable state request is = absurd (cc is)
 
 -- the world after a request with a reply, and after one without

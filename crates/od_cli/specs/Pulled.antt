@@ -5,13 +5,13 @@ use Rattle.std.specs.List.{All}
 use Rattle.std.specs.Map.{values_of}
 use Rattle.hex.specs.Hex.{encode_lower}
 use Rattle.gd_names.specs.Paths.{path_text}
-use Rattle.gd_item.specs.Inventory.{Inventory, live_at}
-use Rattle.gd_item.specs.Records.{feed, record_of, removals}
+use Rattle.gd_item.specs.Inventory.{Effect, Inventory, inventory, live_at}
+use Rattle.gd_item.specs.Records.{feed, record_of}
 use Rattle.gd_item.specs.Sound.{IsItemMap}
 use Rattle.gd_item.specs.Versions.{content_at, version_at}
 use Rattle.gd_item.specs.declared.item.Item.{Item}
 use Rattle.gd_item.specs.declared.item.Kind.{Kind}
-use Rattle.gd_item.specs.declared.item.Kind.TheVariants.{Folder, File, Deleted}
+use Rattle.gd_item.specs.declared.item.Kind.TheVariants.{Folder, File, Bare, Deleted}
 use Rattle.gd_item.specs.declared.live.LiveItem.{LiveItem}
 use Rattle.gd_item.specs.declared.reply.Page.{Page}
 use Rattle.od_mirror.specs.Pulled.{taken_of}
@@ -21,6 +21,7 @@ use Rattle.od_cli.specs.Played.{content_line}
 abbrev pub kind_line : List (List ℕ) → ℕ → Kind → List ℕ
 kind_line path size (Folder child_count) = path_text path ++ codes "/\n"
 kind_line path size (File digest) = path_text path ++ codes " " ++ decimal size ++ codes " " ++ encode_lower digest.0 ++ codes "\n"
+kind_line path size Bare = path_text path ++ codes " " ++ decimal size ++ codes "\n"
 kind_line path size Deleted = []
 
 abbrev pub item_line : List (List ℕ) × Item → List ℕ
@@ -32,16 +33,16 @@ whole_items held = values_of (feed held 0 held.number)
 
 -- the page is the one page of a fresh enumeration of a drive
 pub record IsWhole (page : Page) : Type 0 where
-  pub drive : Inventory
-  pub sound : IsItemMap drive
-  pub no_removals : removals 0 drive.number drive.removed ≡ []
-  pub items : page.items ≡ whole_items drive
+  pub effects : List Effect
+  pub sound : IsItemMap (inventory effects)
+  pub items : page.items ≡ whole_items (inventory effects)
   pub last : taken_of page.link ≡ Last
 
 -- the bytes that a drive has of an item, if it is a file
 abbrev pub shown_kind : Inventory → ℕ → Kind → Option (List ℕ)
 shown_kind held number (Folder child_count) = None
 shown_kind held number (File digest) = version_at number (content_at number held) held
+shown_kind held number Bare = None
 shown_kind held number Deleted = None
 
 -- the line of a record with its content

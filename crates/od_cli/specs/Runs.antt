@@ -87,6 +87,7 @@ kind_name kind.OpenSession = codes "session"
 kind_name kind.Fragment = codes "fragment"
 kind_name kind.SessionStatus = codes "status"
 kind_name kind.CancelSession = codes "cancel"
+kind_name kind.Finish = codes "finish"
 kind_name kind.Delta = codes "delta"
 
 abbrev pub kind_place : RequestKind → ℕ
@@ -102,12 +103,13 @@ kind_place kind.OpenSession = 8
 kind_place kind.Fragment = 9
 kind_place kind.SessionStatus = 10
 kind_place kind.CancelSession = 11
-kind_place kind.Delta = 12
+kind_place kind.Finish = 12
+kind_place kind.Delta = 13
 
 abbrev pub all_kinds : List RequestKind
 all_kinds =
     kind.Get ∷ kind.Children ∷ kind.MakeFolder ∷ kind.Put ∷ kind.Patch ∷ kind.Delete ∷ kind.Content ∷ kind.Download ∷ kind.OpenSession ∷ kind.Fragment ∷ kind.SessionStatus ∷ kind.CancelSession
-    ∷ kind.Delta ∷ []
+    ∷ kind.Finish ∷ kind.Delta ∷ []
 
 -- whether a step is a request of this client of a kind
 abbrev pub is_own_of : RequestKind → Step → Bool

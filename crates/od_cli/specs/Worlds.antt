@@ -10,7 +10,7 @@ use Rattle.gd_item.specs.declared.step.Step.{Step}
 use Rattle.gd_item.specs.declared.step.Step.TheVariants.{Ask}
 use Rattle.gd_item.specs.declared.step.Who.TheVariants.{Own, Other}
 use Rattle.gd_api.specs.Drives.{DriveValue, Stands}
-use Rattle.od_transfer.specs.Asking.{may_answer}
+use Rattle.od_transfer.specs.Asking.{IsPageSize, may_answer}
 
 -- how many items a list of the drive has at most
 abbrev pub page_size : ℕ
@@ -42,9 +42,11 @@ abbrev pub is_no_page : Request → Reply → Bool
 is_no_page (Delta token) (reply.Refused status code) = true
 is_no_page request reply = false
 
--- a reply to this client: what the drive answers with pages of some size
+-- a reply to this client: what the drive answers, which is not plain, with pages of some size
 pub record IsOwnReply (state : State) (request : Request) (reply : Reply) : Type 0 where
   pub size : ℕ
+  pub fits : IsPageSize request size
+  pub plain : state.plain ≡ false
   pub reply_is : reply ≡ answer state size request
   pub kind : may_answer request reply ≡ true
 

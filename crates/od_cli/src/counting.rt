@@ -6,7 +6,7 @@ use gd_names::{Bytes, NoMemory};
 use std::alloc::Global;
 
 /// All kinds of requests in the order in which they are printed.
-const ALL_KINDS: [RequestKind; 13] = [
+const ALL_KINDS: [RequestKind; 14] = [
     RequestKind::Get,
     RequestKind::Children,
     RequestKind::MakeFolder,
@@ -19,6 +19,7 @@ const ALL_KINDS: [RequestKind; 13] = [
     RequestKind::Fragment,
     RequestKind::SessionStatus,
     RequestKind::CancelSession,
+    RequestKind::Finish,
     RequestKind::Delta,
 ];
 
@@ -45,6 +46,7 @@ fn kind_name(kind: RequestKind) -> &'static str
         RequestKind::Fragment => "fragment",
         RequestKind::SessionStatus => "status",
         RequestKind::CancelSession => "cancel",
+        RequestKind::Finish => "finish",
         RequestKind::Delta => "delta",
     }
 }

@@ -20,6 +20,3 @@ pub use line::{Content, Line};
 pub use replay::replay_main;
 pub use script::{ScriptFault, read_script};
 pub use status::ReplayStatus;
-
-#[cfg(test)]
-mod tests;

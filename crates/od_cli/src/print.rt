@@ -68,6 +68,11 @@ fn print_item(alloc: Global, out: &mut Bytes, path: &Path, item: &Item) -> Resul
             let text = format!(in alloc; "{path} {size} {digest}\n")?;
             out.push_slice(text.as_bytes())
         }
+        Kind::Bare => {
+            let size = item.size;
+            let text = format!(in alloc; "{path} {size}\n")?;
+            out.push_slice(text.as_bytes())
+        }
         Kind::Deleted => Ok(()),
     }
 }
@@ -152,10 +157,9 @@ fn print_shown(
             let text = format!(in alloc; "{path}/\n")?;
             out.push_slice(text.as_bytes())
         }
-        Kind::Deleted => {
-            let text = format!(in alloc; "{path}/\n")?;
-            out.push_slice(text.as_bytes())
-        }
+        // a drive's own items have their digests, and live
+        Kind::Bare => unreachable!(),
+        Kind::Deleted => unreachable!(),
     }
 }
 

@@ -23,7 +23,7 @@ fn view_of(alloc: Global, page: &Page) -> Result<MirrorView, NoMemory>
     requires { IsWhole page.now }
     ensures { IfOk result (λ view. view.items ≡ values_of (with_records [] page.now.items)) }
 {
-    let mut mirror = Mirror::start(alloc, List::new(alloc), None)?;
+    let mut mirror = Mirror::start(alloc, List::new(alloc), None);
     match mirror.take_page(page)? {
         Taken::Last => {}
         Taken::More => unreachable!(),
@@ -76,8 +76,8 @@ fn make_page(alloc: Global, store: &Store) -> Result<Page, NoMemory>
     let number = store.number();
     let (items, more) = store.changed_after(0, number, u64::MAX)?;
     if more.is_some() {
-        // More records than a list can hold.
-        return Err(NoMemory);
+        // No list has more records.
+        unreachable!();
     }
     let token = Text::from_str(alloc, "")?;
     Ok(Page {

@@ -170,6 +170,3 @@ fn read_move(alloc: Global, text: &[u8]) -> Result<Line, LineFault>
     let to = read_last_path(alloc, rest)?;
     Ok(Line::OtherMove(from, to))
 }
-
-#[cfg(test)]
-mod tests;

@@ -148,6 +148,7 @@ fn is_about_session(request: &Request) -> bool
         Request::Fragment { .. } => true,
         Request::SessionStatus { .. } => true,
         Request::CancelSession { .. } => true,
+        Request::Finish { .. } => true,
         _ => false,
     }
 }
@@ -174,6 +175,7 @@ fn is_no_page(request: &Request, reply: &Reply) -> bool
 
 impl Remote for World {
     ghost use Rattle.std.specs.Prelude.{Some, true};
+    ghost use Rattle.od_cli.specs.GoingOn.{GoesOn, world_stays, world_further};
 
     ghost log = { λ w. Some w.log };
 
@@ -184,6 +186,12 @@ impl Remote for World {
     ghost in_row = { λ w. w.in_row };
 
     ghost undisturbed = { λ w. true };
+
+    ghost goes = { GoesOn };
+
+    ghost goes_refl = { world_stays };
+
+    ghost goes_trans = { world_further };
 
     fn ask(&mut self, _alloc: Global, request: &Request) -> Result<Reply, AskFault> {
         match self.own(request) {

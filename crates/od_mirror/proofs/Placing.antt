@@ -9,6 +9,7 @@ use Rattle.gd_item.specs.Nodes.{Node, path_of}
 use Rattle.gd_item.specs.Trees.{at_path, placed}
 use Rattle.gd_item.specs.declared.item.Item.{Item}
 use Rattle.gd_laws.proofs.Leading.{path-long}
+use Rattle.gd_laws.proofs.Placing.{Each, each-in-order}
 use Rattle.od_mirror.specs.Pulled.{nodes, paths_of}
 use Rattle.od_mirror.proofs.Uncounted.{is_other}
 
@@ -22,21 +23,6 @@ pub in-order-placed : {X : Type 0} (number : X → ℕ) (all : List Node) (x : X
 in-order-placed number all x xs entries = in-order-at (path_of all (number x)) x entries (placed number all xs)
 
 -- ---- each at a path
-module _ {X : Type 0} (Q : X → Type 0) where
-  abbrev pub Each : List (Path × X) → Type 0
-  Each entries = AllByRecursion (λ (entry : Path × X). Q entry.1) entries
-
-  each-at : (path : Option Path) (x : X) (entries : List (Path × X)) → Q x → Each entries → Each (at_path path x entries)
-  each-at None x entries here all = all
-  each-at (Some path) x entries here all = (here, all)
-
-  each-placed : (number : X → ℕ) (all : List Node) (xs : List X) → AllByRecursion Q xs → Each (placed number all xs)
-  each-placed number all [] each = tt
-  each-placed number all (x ∷ xs) each = each-at (path_of all (number x)) x (placed number all xs) each.0 (each-placed number all xs each.1)
-
-  pub each-in-order : (number : X → ℕ) (all : List Node) (xs : List X) → AllByRecursion Q xs → Each (in_order (placed number all xs))
-  each-in-order number all xs each = all-in-order-from (λ (entry : Path × X). Q entry.1) [] (placed number all xs) tt (each-placed number all xs each)
-
 pub each-at-path : (Q : Item → Type 0) (items : List Item) → AllByRecursion Q items → Each Q (paths_of items)
 each-at-path Q items each =
     each-in-order Q (λ (item : Item). item.id.0) (nodes items) (filter is_other items)

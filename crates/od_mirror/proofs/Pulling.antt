@@ -131,7 +131,7 @@ module _ (log : List Step) where
       })
 
 -- ---- over the last page
-link-items : (items : List (ℕ × Item)) (l : PageLink) → (after_link items l).items ≡ items
+pub link-items : (items : List (ℕ × Item)) (l : PageLink) → (after_link items l).items ≡ items
 link-items items (link.Next token) = refl
 link-items items (link.Delta token) = refl
 

@@ -1,5 +1,5 @@
 -- Batch after batch of fetches: what one does to the logs and to the images, and what all of them do.
-use Rattle.std.proofs.Common.{◌≡◌, inl, inr, ℕ, ◌≤◌, Bool, true, false, ◌||◌, List, [], ◌∷◌, ◌++◌, map, Option, Some, None, Ok, Err, refl, ap, sym, subst, ◌∙◌, append_assoc, arith}
+use Rattle.std.proofs.Common.{◌≡◌, inl, inr, ℕ, ◌<◌, ◌≤◌, Bool, true, false, ◌||◌, List, [], ◌∷◌, ◌++◌, map, Option, Some, None, Ok, Err, refl, ap, sym, subst, ◌∙◌, append_assoc, arith}
 use Rattle.std.proofs.lemmas.List.{append-nil, map-append}
 use Rattle.std.proofs.lemmas.List.Elements.{All-nil, All-cons, All-head, All-tail, All-append, All-map, All-weaker, Contains-append_left, Contains-append_right}
 use Rattle.std.specs.List.{All, AllZip, Contains, list_any}
@@ -21,8 +21,8 @@ use Rattle.gd_names.proofs.Each.{each-append, each-first, each-second}
 use Rattle.od_keeper.proofs.Growing.{sound-stays}
 use Rattle.od_transfer.specs.Alone.{AreOwnServed, is_own_served}
 use Rattle.od_transfer.specs.Asking.{Grows, IsSuch, OwnAre}
-use Rattle.od_transfer.specs.Explained.{Carries, IsExplained, IsFetchExplained}
-use Rattle.od_transfer.specs.Fits.{Fits, HasDigest, IsTransfer, is_lost}
+use Rattle.od_transfer.specs.Explained.{GrowsSo, IsExplained, IsFetchExplained, IsOfJobs}
+use Rattle.od_transfer.specs.Fits.{Fits, HasDigest, IsTransfer, IsWrittenJob, is_lost}
 use Rattle.od_transfer.specs.declared.job.Job.{Job}
 use Rattle.od_transfer.specs.declared.job.Outcome.{Outcome}
 use Rattle.od_tree.specs.Local.{local_of}
@@ -33,10 +33,13 @@ use Rattle.od_sync.specs.Batches.{BringsFiles, CommitsRows, FetchesFiles, Fetche
 use Rattle.od_sync.specs.Doing.{AreAcceptedFetches, AreRowsOf, CanPlace, IsBroughtTo, IsBytes, IsFetchFit, IsFetchOf, IsFileOf, IsMaking, IsPathOf, Makes, NoFolder, PlacesAll, file_spot, job_of, placed_row}
 use Rattle.od_sync.specs.declared.planning.Fetching.{Fetching}
 use Rattle.od_sync.proofs.ImagesAfter.{rows_sound}
-use Rattle.od_sync.proofs.LastImages.{last_added}
+use Rattle.od_keeper.proofs.LastImages.{last_added}
 use Rattle.od_sync.proofs.Made.{makes-so, makes-steps, makes-then}
 use Rattle.od_sync.proofs.Placed.{all-back, all-front}
 use Rattle.od_transfer.proofs.Alone.{fetched_there, transfers_keep}
+use Rattle.od_transfer.proofs.Jobs.{jobs_transfers}
+use Rattle.gd_names.proofs.Small.{neither}
+use Rattle.gd_names.proofs.Streams.{rose-later, rose-on}
 
 -- ---- the steps in the folder
 fits-batch : (batch : List Fetching) (outcomes : List Outcome) → AllZip Fits (map job_of batch) outcomes → AllZip IsFetchFit batch outcomes
@@ -75,10 +78,6 @@ makes-batch whole done left batch rest before now after whole_is left_is first s
     makes-then before now after first (makes-so now after (λ at none. none) (fetch-among batch whole among) second)
 
 -- ---- the bytes of a batch
-none-lost : (a b : Bool) → (a || b) ≡ false → (a ≡ false) × (b ≡ false)
-none-lost true b none = absurd (cc none)
-none-lost false b none = (refl, none)
-
 bytes-come : (drive more : List Step) (batch : List Fetching) (outcomes : List Outcome) (files : List (List (List ℕ) × List ℕ)) → AreOwnServed more → OwnAre IsTransfer more
     → AllZip (IsExplained drive more) (map job_of batch) outcomes → list_any is_lost outcomes ≡ false → AllZip (IsFileOf (held_by drive)) batch files → AllZip IsBytes outcomes files
 bytes-come drive more [] [] [] own transfers explained kept zip = tt
@@ -87,7 +86,7 @@ bytes-come drive more [] (outcome ∷ outcomes) files own transfers explained ke
 bytes-come drive more (fetch ∷ batch) [] files own transfers explained kept zip = absurd explained
 bytes-come drive more (fetch ∷ batch) (outcome ∷ outcomes) [] own transfers explained kept zip = absurd zip
 bytes-come drive more (fetch ∷ batch) (outcome ∷ outcomes) (file ∷ files) own transfers explained kept zip =
-    let lost = none-lost (is_lost outcome) (list_any is_lost outcomes) kept in (
+    let lost = neither (is_lost outcome) (list_any is_lost outcomes) kept in (
       fetched_there drive more fetch.id.0 file.1 outcome own transfers zip.0.there
           (subst (λ (digest : Digest). IsFetchExplained drive more fetch.id digest outcome) zip.0.digest_is explained.0) lost.0,
       bytes-come drive more batch outcomes files own transfers explained.1 lost.1 zip.1,
@@ -97,17 +96,31 @@ not-so : (b : Bool) (P : Type 0) → (b ≡ true → P) → (P → ⊥) → b �
 not-so true P gives none = absurd (none (gives refl))
 not-so false P gives none = refl
 
-pub brings : (batch : List Fetching) (jobs : List Job) (outcomes : List Outcome) (faults_before faults_now : ℕ) (before after : Option (List Step)) → jobs ≡ map job_of batch → Carries jobs before after outcomes
-    → (list_any is_lost outcomes ≡ true → Rose faults_before faults_now) → BringsFiles batch outcomes faults_before faults_now before after
-brings batch jobs outcomes faults_before faults_now before after are carries cause = record {
+-- the requests of a batch are those of fetches
+jobs-written : (batch : List Fetching) (jobs : List Job) → jobs ≡ map job_of batch → All (λ (fetch : Fetching). 0 < fetch.id.0) batch → All IsWrittenJob jobs
+jobs-written batch jobs are written = subst (λ (js : List Job). All IsWrittenJob js) (sym are) (All-map IsWrittenJob job_of batch written)
+
+pub carries-transfers : {Holds : List Step → List Step → Type 0} (batch : List Fetching) (jobs : List Job) (before after : Option (List Step)) → jobs ≡ map job_of batch
+    → All (λ (fetch : Fetching). 0 < fetch.id.0) batch → GrowsSo (IsOfJobs jobs) Holds before after → Grows IsTransfer before after
+carries-transfers batch jobs before after are written carries = record {
   told = λ drive told.
       let carried = carries.told drive told in
+      record { part = carried.part; such = jobs_transfers jobs drive carried.part (jobs-written batch jobs are written) carried.such; grown = carried.grown };
+}
+
+pub brings : (batch : List Fetching) (jobs : List Job) (outcomes : List Outcome) (faults_before faults_now : ℕ) (before after : Option (List Step)) → jobs ≡ map job_of batch
+    → All (λ (fetch : Fetching). 0 < fetch.id.0) batch → GrowsSo (IsOfJobs jobs) (λ old part. AllZip (IsExplained old part) jobs outcomes) before after
+    → (list_any is_lost outcomes ≡ true → Rose faults_before faults_now) → BringsFiles batch outcomes faults_before faults_now before after
+brings batch jobs outcomes faults_before faults_now before after are written carries cause = record {
+  told = λ drive told.
+      let carried = carries.told drive told in
+      let transfers = jobs_transfers jobs drive carried.part (jobs-written batch jobs are written) carried.such in
       record {
         more = carried.part;
-        transfers = carried.such;
+        transfers = transfers;
         grown = carried.grown;
         all = λ no_fault own files zip.
-            bytes-come drive carried.part batch outcomes files own carried.such (subst (λ (js : List Job). AllZip (IsExplained drive carried.part) js outcomes) are carried.explained)
+            bytes-come drive carried.part batch outcomes files own transfers (subst (λ (js : List Job). AllZip (IsExplained drive carried.part) js outcomes) are carried.holds)
             (not-so (list_any is_lost outcomes) (Rose faults_before faults_now) cause no_fault) zip;
       };
 }
@@ -255,12 +268,6 @@ accepted-stays drive more fetches accepted =
     let sound : IsSound image drive = record { rows = All-map (λ (row : BaseRow). IsAccepted (accepted_by drive) row.what) placed_row fetches accepted; items = refl } in
     all-from-map (λ (row : BaseRow). IsAccepted (accepted_by (drive ++ more)) row.what) placed_row fetches (sound-stays image drive more sound).rows
 
-rose-before : (a b c : ℕ) → b ≤ c → Rose a b → Rose a c
-rose-before a b c later rose = omega arith
-
-rose-after : (a b c : ℕ) → a ≤ b → Rose b c → Rose a c
-rose-after a b c later rose = omega arith
-
 pub fetches-then : (image : Image) (done : List Fetching) (mid : Image) (batch : List Fetching) (next : Image) (f g h : ℕ) (drive_before drive_mid drive_after : Option (List Step))
     (local_before local_mid local_after : Option (List LocalStep)) (images_before images_mid images_after : Option (List Image)) → f ≤ g → g ≤ h
     → Fetches image done mid f g drive_before drive_mid local_before local_mid images_before images_mid → Fetches mid batch next g h drive_mid drive_after local_mid local_after images_mid images_after
@@ -296,11 +303,11 @@ fetches-then image done mid batch next f g h drive_before drive_mid drive_after 
             let parts : InParts (held_by drive) done batch files = in-parts (held_by drive) done batch files zip in
             let cans = can-parts (local_of local).spots parts.those parts.others (subst (λ fs. CanPlace (local_of local).spots fs) parts.files_are can) in
             let front : (local_of (local ++ one.part)).spots ≡ (local_of local).spots ++ map file_spot parts.those =
-            one.all (λ rose. no_fault (rose-before f g h late rose)) own_first (each-first IsOp one.part two.part alone) parts.those parts.zip_first cans.0
+            one.all (λ rose. no_fault (rose-on f g h rose late)) own_first (each-first IsOp one.part two.part alone) parts.those parts.zip_first cans.0
             in
             let same : held_by drive ≡ held_by (drive ++ one.more) = sym (ap held (transfers_keep drive one.more own_first one.transfers)) in
             let back =
-            two.all (λ rose. no_fault (rose-after f g h early rose)) (each-second (λ (step : Step). is_own_served step ≡ true) one.more two.more own) (each-second IsOp one.part two.part alone) parts.others
+            two.all (λ rose. no_fault (rose-later f g h early rose)) (each-second (λ (step : Step). is_own_served step ≡ true) one.more two.more own) (each-second IsOp one.part two.part alone) parts.others
             (subst (λ (inventory : Inventory). AllZip (IsFileOf inventory) batch parts.others) same parts.zip_second) (subst (λ ss. CanPlace ss parts.others) (sym front) cans.1)
             in
             ap (λ steps. (local_of steps).spots) (sym (append_assoc local one.part two.part))

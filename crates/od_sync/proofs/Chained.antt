@@ -1,5 +1,5 @@
 -- The requests of one part of a log after those of another, and parts in which no token comes from the drive.
-use Rattle.std.proofs.Common.{◌≡◌, ℕ, true, false, List, [], ◌∷◌, ◌++◌, Option, Some, refl, sym, subst, append_assoc}
+use Rattle.std.proofs.Common.{◌≡◌, ℕ, true, false, List, [], ◌∷◌, ◌++◌, Option, Some, inl, inr, refl, ap, sym, subst, ◌∙◌, append_assoc}
 use Rattle.std.proofs.lemmas.List.{append-nil}
 use Rattle.gd_item.specs.Answers.{answer_of}
 use Rattle.gd_item.specs.declared.reply.Page.{Page}
@@ -13,7 +13,7 @@ use Rattle.gd_item.specs.declared.step.Step.TheVariants.{Ask, Event}
 use Rattle.gd_item.specs.declared.step.Who.TheVariants.{Own, Other}
 use Rattle.od_transfer.specs.Asking.{IsSuch, OwnAre, is_last_link}
 use Rattle.od_transfer.specs.Fits.{IsTransfer}
-use Rattle.od_sync.specs.Chains.{AsksWith, GivesToken, IsChained}
+use Rattle.od_sync.specs.Chains.{AsksWith, Chained, GivesToken, IsChained}
 use Rattle.od_sync.specs.Deltas.{IsSpent}
 
 -- one part after another
@@ -26,6 +26,21 @@ chain-then a b c drive (step ∷ m1) m2 first second = (
   first.1,
   chain-then first.0 b c (drive ++ step ∷ []) m1 m2 first.2 (subst (λ (log : List Step). IsChained b log m2 c) (sym (append_assoc drive (step ∷ []) m1)) second),
 )
+
+-- to whichever token
+pub chained-all : (token last : Option (List ℕ)) (drive more : List Step) → IsChained token drive more last → Chained token drive more
+chained-all token last drive more all = record { last = last; taken = more; chained = all; rest = inl refl }
+
+pub chained-then : (a b : Option (List ℕ)) (drive m1 m2 : List Step) → IsChained a drive m1 b → Chained b (drive ++ m1) m2 → Chained a drive (m1 ++ m2)
+chained-then a b drive m1 m2 first second = record {
+  last = second.last;
+  taken = m1 ++ second.taken;
+  chained = chain-then a b second.last drive m1 second.taken first second.chained;
+  rest = elim second.rest [
+    | inl is ↦ inl (ap (λ steps. m1 ++ steps) is)
+    | inr is ↦ inr (ap (λ steps. m1 ++ steps) is ∙ sym (append_assoc m1 second.taken (Ask Own (Delta second.last) true true ∷ [])))
+  ];
+}
 
 -- what no answer was heard to leaves the token
 transfer-step : (token : Option (List ℕ)) (drive : List Step) (step : Step) → IsSuch IsTransfer step → AsksWith token drive step token
@@ -49,6 +64,10 @@ spent-step token drive (Event event) spent = refl
 pub chain-spent : (token : Option (List ℕ)) (drive spent : List Step) → OwnAre (IsSpent (Delta token)) spent → IsChained token drive spent token
 chain-spent token drive [] such = refl
 chain-spent token drive (step ∷ more) such = (token, spent-step token drive step such.0, chain-spent token (drive ++ step ∷ []) more such.1)
+
+-- such requests, and perhaps one that was answered in vain
+pub chain-lost : (token : Option (List ℕ)) (drive spent : List Step) → OwnAre (IsSpent (Delta token)) spent → Chained token drive (spent ++ Ask Own (Delta token) true true ∷ [])
+chain-lost token drive spent such = record { last = token; taken = spent; chained = chain-spent token drive spent such; rest = inr refl }
 
 -- an answer gives the next token
 pub chain-answered : (token : Option (List ℕ)) (drive : List Step) (size : ℕ) (text : List ℕ) → GivesToken (answer_of drive size (Delta token)) text

@@ -1,7 +1,7 @@
 -- Entries that compare as the same with a drive's tree are those of a scan of it. Trees that compare as the same are the same,
 -- where no two unlike contents have one digest, and trees that are the same compare as the same.
 use Rattle.std.proofs.Common.{◌≡◌, ℕ, Bool, true, false, ◌&&◌, List, [], ◌∷◌, map, nat_eq, Option, Some, None, refl, ap, sym, ◌∙◌}
-use Rattle.std.proofs.lemmas.Bool.{eq-eqb}
+use Rattle.std.proofs.lemmas.Bool.{and_parts, and_from}
 use Rattle.std.specs.Cmp.Lexicographic.{pointwise, same_text}
 use Rattle.std.specs.List.{AllByRecursion, Contains}
 use Rattle.sha2.specs.Sha256.{sha256}
@@ -9,41 +9,11 @@ use Rattle.gd_item.specs.Records.{digest_record, kind_at, record_of}
 use Rattle.gd_item.specs.declared.digest.Digest.{Digest}
 use Rattle.gd_item.specs.declared.item.Item.{Item}
 use Rattle.gd_item.specs.declared.live.LiveItem.{LiveItem}
+use Rattle.od_tree.proofs.Contents.{IsAmong}
+use Rattle.od_tree.proofs.Paths.{path-self, same-path, text-self}
 use Rattle.od_sync.specs.Comparing.{is_same, is_same_entry, is_same_node, node_of, scanned}
 use Rattle.od_sync.specs.declared.scanning.Node.{Node}
 use Rattle.od_sync.specs.declared.scanning.Node.TheVariants.{Folder, File}
-
-pub both : (a b : Bool) → (a && b) ≡ true → (a ≡ true) × (b ≡ true)
-both true b is = (refl, is)
-both false b is = absurd (cc is)
-
-two : (a b : Bool) → a ≡ true → b ≡ true → (a && b) ≡ true
-two true b first second = second
-two false b first second = absurd (cc first)
-
-nat-self : (n : ℕ) → nat_eq n n ≡ true
-nat-self n = eq-eqb n n refl
-
-pub text-self : (xs : List ℕ) → pointwise nat_eq xs xs ≡ true
-text-self [] = refl
-text-self (x ∷ xs) = rw (nat-self x) (text-self xs)
-
-path-self : (path : List (List ℕ)) → pointwise (pointwise nat_eq) path path ≡ true
-path-self [] = refl
-path-self (name ∷ path) = rw (text-self name) (path-self path)
-
-pub same-path : (a b : List (List ℕ)) → pointwise (pointwise nat_eq) a b ≡ true → a ≡ b
-same-path [] [] is = refl
-same-path [] (y ∷ b) is = absurd (cc is)
-same-path (x ∷ a) [] is = absurd (cc is)
-same-path (x ∷ a) (y ∷ b) is =
-    let parts = both (pointwise nat_eq x y) (pointwise (pointwise nat_eq) a b) is in
-    ap (λ first. first ∷ a) (same_text x y (sym parts.0)) ∙ ap (λ rest. y ∷ rest) (same-path a b parts.1)
-
--- the bytes, if there are any, are among these
-abbrev pub IsAmong : List (List ℕ) → Option (List ℕ) → Type 0
-IsAmong known None = Unit {0}
-IsAmong known (Some bytes) = Contains known bytes
 
 -- those of one digest are the same
 abbrev pub AreApart : List (List ℕ) → Type 0
@@ -72,8 +42,8 @@ same-scanned all [] [] is = refl
 same-scanned all [] (b ∷ placed) is = absurd (cc is)
 same-scanned all (a ∷ found) [] is = absurd (cc is)
 same-scanned all (a ∷ found) (b ∷ placed) is =
-    let first = both (is_same_entry a (b.0, record_of all b.1)) (is_same found (Shows all placed)) is in
-    let parts = both (pointwise (pointwise nat_eq) a.0 b.0) (is_same_node a.1 (record_of all b.1).kind) first.0 in
+    let first = and_parts (is_same_entry a (b.0, record_of all b.1)) (is_same found (Shows all placed)) is in
+    let parts = and_parts (pointwise (pointwise nat_eq) a.0 b.0) (is_same_node a.1 (record_of all b.1).kind) first.0 in
     let same_first : a ≡ (b.0, node_of b.1.bytes) =
     ap (λ path. (path, a.1)) (same-path a.0 b.0 parts.0) ∙ ap (λ node. (b.0, node)) (same-found a.1 b.1.bytes b.1.number all parts.1) in
     ap (λ entry. entry ∷ found) same_first ∙ ap (λ rest. (b.0, node_of b.1.bytes) ∷ rest) (same-scanned all found placed first.1)
@@ -95,8 +65,8 @@ same-trees known all [] [] apart ours theirs is = refl
 same-trees known all [] (b ∷ placed) apart ours theirs is = absurd (cc is)
 same-trees known all (a ∷ local) [] apart ours theirs is = absurd (cc is)
 same-trees known all (a ∷ local) (b ∷ placed) apart ours theirs is =
-    let first = both (is_same_entry (a.0, node_of a.1) (b.0, record_of all b.1)) (is_same (scanned local) (Shows all placed)) is in
-    let parts = both (pointwise (pointwise nat_eq) a.0 b.0) (is_same_node (node_of a.1) (record_of all b.1).kind) first.0 in
+    let first = and_parts (is_same_entry (a.0, node_of a.1) (b.0, record_of all b.1)) (is_same (scanned local) (Shows all placed)) is in
+    let parts = and_parts (pointwise (pointwise nat_eq) a.0 b.0) (is_same_node (node_of a.1) (record_of all b.1).kind) first.0 in
     let same_first : a ≡ (b.0, b.1.bytes) =
     ap (λ path. (path, a.1)) (same-path a.0 b.0 parts.0)
     ∙ ap (λ entry. (b.0, entry)) (same-node known a.1 b.1.bytes b.1.number all apart ours.0 theirs.0 parts.1) in
@@ -110,6 +80,6 @@ node-self (Some bytes) number all = text-self (sha256 bytes)
 pub same-entries : (all : List LiveItem) (placed : List (List (List ℕ) × LiveItem)) → is_same (scanned (bytes_of placed)) (Shows all placed) ≡ true
 same-entries all [] = refl
 same-entries all (b ∷ placed) =
-    two (is_same_entry (b.0, node_of b.1.bytes) (b.0, record_of all b.1)) (is_same (scanned (bytes_of placed)) (Shows all placed))
-    (two (pointwise (pointwise nat_eq) b.0 b.0) (is_same_node (node_of b.1.bytes) (record_of all b.1).kind) (path-self b.0) (node-self b.1.bytes b.1.number all))
+    and_from (is_same_entry (b.0, node_of b.1.bytes) (b.0, record_of all b.1)) (is_same (scanned (bytes_of placed)) (Shows all placed))
+    (and_from (pointwise (pointwise nat_eq) b.0 b.0) (is_same_node (node_of b.1.bytes) (record_of all b.1).kind) (path-self b.0) (node-self b.1.bytes b.1.number all))
     (same-entries all placed)

@@ -11,7 +11,7 @@ use Rattle.gd_item.specs.declared.request.Request.TheVariants.{Delta}
 use Rattle.gd_item.specs.declared.step.Step.{Step}
 use Rattle.gd_item.specs.declared.step.Step.TheVariants.{Ask}
 use Rattle.gd_item.specs.declared.step.Who.TheVariants.{Own}
-use Rattle.od_keeper.specs.Sound.{uncounted}
+use Rattle.gd_item.specs.Views.{uncounted}
 use Rattle.od_mirror.specs.Pulled.{paths_of}
 use Rattle.od_transfer.specs.Alone.{AreOwnServed}
 use Rattle.od_transfer.specs.Asking.{OwnAre}
@@ -37,15 +37,13 @@ use Rattle.od_sync.proofs.SameTrees.{same-as-drive, drive-as-same, drive-as-foun
 use Rattle.od_sync.proofs.Growth.{answered, asked-spent, each-first, each-second, scan-steps}
 use Rattle.od_sync.proofs.LooksFound.{asked-look, asked-none, scans-makes, scans-scan}
 use Rattle.od_sync.proofs.ServedTokens.{is-served}
+use Rattle.od_sync.proofs.Looks.{looks-keep as looks-keep-from, no-edits}
+use Rattle.std.proofs.lemmas.Bool.{or_right}
 
 -- ---- what comes before the last such step, and after it
-or-later : (a b : Bool) → b ≡ true → (a || b) ≡ true
-or-later true b is = refl
-or-later false b is = is
-
 any-later : {X : Type 0} (is : X → Bool) (xs : List X) (x : X) (ys : List X) → is x ≡ true → list_any is (xs ++ x ∷ ys) ≡ true
 any-later is [] x ys such = ap (λ b. b || list_any is ys) such
-any-later is (y ∷ xs) x ys such = or-later (is y) (list_any is (xs ++ x ∷ ys)) (any-later is xs x ys such)
+any-later is (y ∷ xs) x ys such = or_right (is y) (list_any is (xs ++ x ∷ ys)) (any-later is xs x ys such)
 
 before-cond : {X : Type 0} (b : Bool) (x : X) (xs : List X) → b ≡ true → cond b (x ∷ xs) [] ≡ x ∷ xs
 before-cond true x xs is = refl
@@ -70,38 +68,10 @@ after-last is (y ∷ xs) x ys such none =
     after-cond (list_any is (xs ++ x ∷ ys)) (after_last is (xs ++ x ∷ ys)) (xs ++ x ∷ ys) (any-later is xs x ys such) ∙ after-last is xs x ys such none
 
 -- ---- looks change nothing where the user leaves the folder alone
-same-either : (b : Bool) (local : Local) → cond b local local ≡ local
-same-either true local = refl
-same-either false local = refl
-
-one-look : (n : ℕ) (local : Local) (step : LocalStep) → IsLook step → IsOp step → after_step n local step ≡ local
-one-look n local (User edit) look alone = absurd alone
-one-look n local (Op (op.List at)) look alone = same-either (is_none (op_refusal local (op.List at))) local
-one-look n local (Op (op.Read at)) look alone = same-either (is_none (op_refusal local (op.Read at))) local
-one-look n local (Op (op.MakeDir at)) look alone = absurd look
-one-look n local (Op (op.RemoveDir at)) look alone = absurd look
-one-look n local (Op (op.Place at bytes)) look alone = absurd look
-one-look n local (Op (op.Rename from to)) look alone = absurd look
-one-look n local (Op (op.SetAside at)) look alone = absurd look
-one-look n local (Op (op.ReadAside aside)) look alone = absurd look
-one-look n local (Op (op.PutBack aside to)) look alone = absurd look
-one-look n local (Op (op.Discard aside)) look alone = absurd look
-one-look n local (Op op.Asides) look alone = absurd look
-
-looks-keep-from : (n : ℕ) (local : Local) (old part : List LocalStep) → AllByRecursion IsLook part → NoUser part → after_steps n local (old ++ part) ≡ after_steps n local old
-looks-keep-from n local [] [] looks alone = refl
-looks-keep-from n local [] (step ∷ part) looks alone =
-    looks-keep-from (n + 1) (after_step n local step) [] part looks.1 alone.1 ∙ one-look n local step looks.0 alone.0
-looks-keep-from n local (step ∷ old) part looks alone = looks-keep-from (n + 1) (after_step n local step) old part looks alone
-
 pub looks-keep : (old part : List LocalStep) → AllByRecursion IsLook part → NoUser part → local_of (old ++ part) ≡ local_of old
 looks-keep old part looks alone = looks-keep-from 0 empty_folder old part looks alone
 
 -- the folder after a scan without edits of the user
-no-edits : (edits : List UserEdit) (more : List LocalStep) → NoUser (map (λ (edit : UserEdit). User edit) edits ++ more) → edits ≡ []
-no-edits [] more alone = refl
-no-edits (edit ∷ edits) more alone = absurd alone.0
-
 pub edited-none : (local : List LocalStep) (edits : List UserEdit) (rest : List LocalStep) → NoUser (scan-steps edits rest) → edited local edits ≡ local
 edited-none local edits rest alone =
     ap (λ (es : List UserEdit). edited local es) (no-edits edits (Op (op.List []) ∷ rest) alone) ∙ append-nil local

@@ -1,9 +1,8 @@
 -- A plan that is done: the folders, and then the files that are tried.
-use Rattle.std.proofs.Common.{◌≡◌, ℕ, ◌≤◌, Bool, true, not, cond, List, [], ◌∷◌, ◌++◌, map, filter, nat_le, Option, Some, refl, ap, sym, subst, ◌∙◌, append_assoc}
-use Rattle.std.proofs.lemmas.Bool.{le-leb, leb-true, and_parts, or_right}
+use Rattle.std.proofs.Common.{◌≡◌, ℕ, ◌<◌, ◌≤◌, Bool, true, not, ◌&&◌, cond, nat_lt, List, [], ◌∷◌, ◌++◌, map, filter, nat_le, Option, Some, refl, ap, sym, subst, ◌∙◌, append_assoc, arith}
+use Rattle.std.proofs.lemmas.Bool.{le-leb, leb-true, lt-ltb, ltb-true, and_parts, and_from, or_right}
 use Rattle.std.proofs.lemmas.List.Elements.{All-contains, All-contains_itself, All-filter, All-weaker, filter_passes}
 use Rattle.std.specs.List.{All, AllByRecursion, AllZip, Contains}
-use Rattle.gd_item.specs.Inventory.{Inventory}
 use Rattle.gd_item.specs.Steps.{held_by, accepted_by}
 use Rattle.gd_item.specs.declared.request.Request.{Request}
 use Rattle.gd_item.specs.declared.step.Step.{Step}
@@ -12,6 +11,7 @@ use Rattle.od_keeper.specs.declared.image.Agreed.TheVariants as agreed
 use Rattle.od_keeper.specs.declared.image.Image.{Image}
 use Rattle.od_transfer.specs.Fits.{IsTransfer, is_transfer}
 use Rattle.gd_names.proofs.Each.{each-so, each-append, each-first, each-second}
+use Rattle.od_transfer.proofs.Alone.{found-item}
 use Rattle.od_transfer.proofs.Logs.{such-also}
 use Rattle.od_tree.specs.Local.{local_of}
 use Rattle.od_tree.specs.Undisturbed.{IsOp}
@@ -52,18 +52,29 @@ pub tried-below : (barred : List (List (List ℕ))) (P : Fetching → Type 0) (f
 tried-below barred P fetches all = All-filter (is_tried barred) P fetches all
 
 light : (barred : List (List (List ℕ))) (fetch : Fetching) → is_tried barred fetch ≡ true → fetch.size ≤ most_bytes
-light barred fetch tried = leb-true fetch.size most_bytes (and_parts (not (is_below_any barred fetch.path)) (nat_le fetch.size most_bytes) tried).1
+light barred fetch tried =
+    let first = and_parts (not (is_below_any barred fetch.path) && nat_le fetch.size most_bytes) (nat_lt 0 fetch.id.0) tried in
+    leb-true fetch.size most_bytes (and_parts (not (is_below_any barred fetch.path)) (nat_le fetch.size most_bytes) first.0).1
+
+written : (barred : List (List (List ℕ))) (fetch : Fetching) → is_tried barred fetch ≡ true → 0 < fetch.id.0
+written barred fetch tried = ltb-true 0 fetch.id.0 (and_parts (not (is_below_any barred fetch.path) && nat_le fetch.size most_bytes) (nat_lt 0 fetch.id.0) tried).1
 
 pub tried-light : (barred : List (List (List ℕ))) (fetches : List Fetching) → All (λ (fetch : Fetching). fetch.size ≤ most_bytes) (filter (is_tried barred) fetches)
 tried-light barred fetches =
     All-weaker (λ (fetch : Fetching). is_tried barred fetch ≡ true) (λ (fetch : Fetching). fetch.size ≤ most_bytes) (light barred) (filter (is_tried barred) fetches) (filter_passes (is_tried barred) fetches)
 
-all-tried : (inventory : Inventory) (fetches : List Fetching) (files : List (List (List ℕ) × List ℕ)) → AllZip (IsFileOf inventory) fetches files → filter (is_tried []) fetches ≡ fetches
-all-tried inventory [] files zip = refl
-all-tried inventory (fetch ∷ fetches) [] zip = absurd zip
-all-tried inventory (fetch ∷ fetches) (file ∷ files) zip =
-    ap (λ b. cond b (fetch ∷ filter (is_tried []) fetches) (filter (is_tried []) fetches)) (le-leb fetch.size most_bytes zip.0.size_fits)
-    ∙ ap (λ fs. fetch ∷ fs) (all-tried inventory fetches files zip.1)
+pub tried-written : (barred : List (List (List ℕ))) (fetches : List Fetching) → All (λ (fetch : Fetching). 0 < fetch.id.0) (filter (is_tried barred) fetches)
+tried-written barred fetches =
+    All-weaker (λ (fetch : Fetching). is_tried barred fetch ≡ true) (λ (fetch : Fetching). 0 < fetch.id.0) (written barred) (filter (is_tried barred) fetches) (filter_passes (is_tried barred) fetches)
+
+all-tried : (drive : List Step) (fetches : List Fetching) (files : List (List (List ℕ) × List ℕ)) → AllZip (IsFileOf (held_by drive)) fetches files → filter (is_tried []) fetches ≡ fetches
+all-tried drive [] files zip = refl
+all-tried drive (fetch ∷ fetches) [] zip = absurd zip
+all-tried drive (fetch ∷ fetches) (file ∷ files) zip =
+    let found = found-item drive fetch.id.0 zip.0.there.item zip.0.there.there in
+    ap (λ b. cond b (fetch ∷ filter (is_tried []) fetches) (filter (is_tried []) fetches))
+    (and_from (nat_le fetch.size most_bytes) (nat_lt 0 fetch.id.0) (le-leb fetch.size most_bytes zip.0.size_fits) (lt-ltb 0 fetch.id.0 (omega (arith, found.above))))
+    ∙ ap (λ fs. fetch ∷ fs) (all-tried drive fetches files zip.1)
 
 -- ---- the steps in the folder
 pub makes-folders : (folders made : List (List (List ℕ))) (fetches : List Fetching) (before after : Option (List LocalStep)) → made ≡ folders → Makes (IsFolderOf made) NoFile before after
@@ -133,7 +144,7 @@ does-plan {IsFolder} {IsFile} image plan tried barred next faults_before faults_
         last = done.last;
         all_done = λ no_fault own alone files zip can_make can_place.
             let front = all_made.all local made.part told_local made.grown (each-first IsOp made.part done.part alone) can_make in
-            let here : tried ≡ plan.fetches = tried_are ∙ (ap (λ tops. filter (is_tried tops) plan.fetches) front.0 ∙ all-tried (held_by drive) plan.fetches files zip) in
+            let here : tried ≡ plan.fetches = tried_are ∙ (ap (λ tops. filter (is_tried tops) plan.fetches) front.0 ∙ all-tried drive plan.fetches files zip) in
             let back =
             done.all no_fault own (each-second IsOp made.part done.part alone) files (subst (λ (fs : List Fetching). AllZip (IsFileOf (held_by drive)) fs files) (sym here) zip)
             (subst (λ spots. CanPlace spots files) (sym front.1) can_place)

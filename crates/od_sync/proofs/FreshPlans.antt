@@ -12,21 +12,20 @@ use Rattle.gd_item.specs.declared.live.LiveItem.{LiveItem}
 use Rattle.gd_item.specs.declared.step.Step.{Step}
 use Rattle.gd_names.proofs.Each.{each-so}
 use Rattle.gd_names.proofs.Ordered.{Path, Rises, rises-in-order-from}
-use Rattle.gd_store.proofs.Logs.{sound-log}
-use Rattle.od_keeper.specs.Sound.{uncounted}
-use Rattle.od_mirror.specs.Drive.{placed_items}
+use Rattle.gd_laws.proofs.Logs.{file_sizes, sound-log}
+use Rattle.gd_item.specs.Views.{uncounted}
+use Rattle.gd_laws.specs.Placed.{placed_items}
 use Rattle.od_mirror.specs.Pulled.{paths_of}
-use Rattle.od_mirror.proofs.Mapped.{mapped}
+use Rattle.gd_names.proofs.Mapped.{mapped}
 use Rattle.od_mirror.proofs.Standing.{paths-of-placed, tree-of-placed}
 use Rattle.od_tree.specs.Local.{is_path}
 use Rattle.od_sync.specs.FreshPlans.{FreshPlan}
 use Rattle.od_sync.specs.Planning.{fetches_of, planned_fetches, planned_folders}
 use Rattle.od_sync.specs.declared.planning.Fetching.{Fetching}
-use Rattle.od_sync.proofs.FileSizes.{file_sizes}
-use Rattle.od_sync.proofs.FreshPlansHeld.{IsAt, IsHeld, IsLed, all-at, all-held, all-led, item_bytes}
+use Rattle.gd_laws.proofs.PlacedItems.{IsAt, IsHeld, IsLed, all-at, all-held, all-led, item_bytes}
 use Rattle.od_sync.proofs.FreshPlansItems.{fetches-fresh, files-held, folders-fresh, folders-held, same-fetches, same-folders, same-paths}
-use Rattle.od_sync.proofs.FreshPlansKeys.{all-mapped}
-use Rattle.od_sync.proofs.FreshPlansPaths.{path-long}
+use Rattle.gd_names.proofs.Keys.{all-mapped}
+use Rattle.gd_laws.proofs.Leading.{path-long}
 use Rattle.od_sync.proofs.FreshPlansSpots.{AreBelow, can-make, can-place}
 use Rattle.od_sync.proofs.FreshPlansTrees.{Entry, files, folders, tree-again}
 

@@ -8,19 +8,20 @@ use Rattle.gd_item.specs.declared.item.Item.{Item}
 use Rattle.gd_item.specs.declared.item.Kind.{Kind}
 use Rattle.gd_item.specs.declared.item.Kind.TheVariants as kind
 use Rattle.gd_item.specs.declared.live.LiveItem.{LiveItem}
-use Rattle.od_keeper.specs.Sound.{uncounted, uncounted_kind}
+use Rattle.gd_item.specs.Views.{uncounted, uncounted_kind}
 use Rattle.od_mirror.specs.Pulled.{paths_of}
 use Rattle.gd_names.proofs.Each.{each-so}
 use Rattle.gd_names.proofs.Ordered.{Path}
-use Rattle.od_mirror.proofs.Mapped.{mapped}
+use Rattle.gd_names.proofs.Mapped.{mapped}
 use Rattle.od_tree.specs.Local.{is_from}
 use Rattle.od_sync.specs.Doing.{IsFileOf}
 use Rattle.od_sync.specs.Planning.{fetches_of, file_in, folder_in, folders_of, is_new, is_wanted, planned_fetches, planned_folders}
 use Rattle.od_sync.specs.declared.planning.Fetching.{Fetching}
-use Rattle.od_sync.proofs.Below.{from-self}
-use Rattle.od_sync.proofs.FreshPlansHeld.{IsAt, item_bytes}
+use Rattle.od_tree.proofs.Below.{from-self}
+use Rattle.gd_laws.proofs.PlacedItems.{IsAt, item_bytes}
 use Rattle.od_sync.proofs.FreshPlansTrees.{file_of, files, folder_of, folders}
-use Rattle.od_sync.proofs.Uncounted.{paths-uncounted}
+use Rattle.od_mirror.proofs.Uncounted.{paths-uncounted}
+use Rattle.std.proofs.lemmas.Bool.{or_right}
 
 -- ---- the numbers of children do not count
 -- the paths of items that are the same but for the numbers of children
@@ -30,6 +31,7 @@ same-paths items others same = sym (paths-uncounted items) ∙ ap paths_of same 
 folder-in-uncounted : (entry : Path × Item) (kind : Kind) → folder_in (entry.0, uncounted entry.1) (uncounted_kind kind) ≡ folder_in entry kind
 folder-in-uncounted entry (kind.Folder child_count) = refl
 folder-in-uncounted entry (kind.File digest) = refl
+folder-in-uncounted entry kind.Bare = refl
 folder-in-uncounted entry kind.Deleted = refl
 
 folders-uncounted : (entries : List (Path × Item)) → folders_of (mapped uncounted entries) ≡ folders_of entries
@@ -41,6 +43,7 @@ folders-uncounted (entry ∷ entries) =
 file-in-uncounted : (entry : Path × Item) (kind : Kind) → file_in (entry.0, uncounted entry.1) (uncounted_kind kind) ≡ file_in entry kind
 file-in-uncounted entry (kind.Folder child_count) = refl
 file-in-uncounted entry (kind.File digest) = refl
+file-in-uncounted entry kind.Bare = refl
 file-in-uncounted entry kind.Deleted = refl
 
 fetches-uncounted : (entries : List (Path × Item)) → fetches_of (mapped uncounted entries) ≡ fetches_of entries
@@ -64,16 +67,12 @@ filter-all test (entry ∷ entries) all =
 abbrev is_above_any : List (Path × Item) → Path × Item → Bool
 is_above_any entries entry = list_any (λ (other : Path × Item). is_from entry.0 other.0 && true) entries
 
-or-later : (a b : Bool) → b ≡ true → (a || b) ≡ true
-or-later true b is = refl
-or-later false b is = is
-
 all-above-any : (entries : List (Path × Item)) → AllByRecursion (λ (entry : Path × Item). is_above_any entries entry ≡ true) entries
 all-above-any [] = tt
 all-above-any (first ∷ entries) = (
   ap (λ b. (b && true) || is_above_any entries first) (from-self first.0),
   each-so (λ (entry : Path × Item). is_above_any entries entry ≡ true) (λ (entry : Path × Item). is_above_any (first ∷ entries) entry ≡ true)
-      (λ entry is. or-later (is_from entry.0 first.0 && true) (is_above_any entries entry) is) entries (all-above-any entries),
+      (λ entry is. or_right (is_from entry.0 first.0 && true) (is_above_any entries entry) is) entries (all-above-any entries),
 )
 
 pub folders-fresh : (entries : List (Path × Item)) → planned_folders [] [] entries ≡ folders_of entries

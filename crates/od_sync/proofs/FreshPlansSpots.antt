@@ -13,9 +13,8 @@ use Rattle.od_tree.specs.declared.local.Spot.{Spot}
 use Rattle.od_sync.specs.Doing.{CanMake, CanPlace, CanStand, folder_spot, placed_file}
 use Rattle.gd_names.proofs.Each.{each-append, each-both, each-so}
 use Rattle.gd_names.proofs.Ordered.{Path, Above, Rises, In, all-in, paths-total}
-use Rattle.od_sync.proofs.Below.{path-self}
-use Rattle.od_sync.proofs.Compared.{same-path}
-use Rattle.od_sync.proofs.FreshPlansHeld.{IsLed}
+use Rattle.od_tree.proofs.Paths.{path-self, same-path}
+use Rattle.gd_laws.proofs.PlacedItems.{IsLed}
 use Rattle.od_sync.proofs.FreshPlansTrees.{Entry, file_of, files, folder_of, folders}
 
 -- ---- paths

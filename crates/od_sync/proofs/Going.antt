@@ -37,8 +37,9 @@ use Rattle.od_sync.specs.declared.scanning.Node.{Node}
 use Rattle.od_sync.proofs.ImagesAfter.{agreement_sound}
 use Rattle.od_sync.proofs.Looks.{looks-none}
 use Rattle.od_sync.proofs.RecordDigests.{record_digest_accepted}
-use Rattle.od_sync.proofs.Growth.{answered, asked-answered, asked-with, last-push, look-steps, none-more, scan-steps, scan-is-steps}
+use Rattle.od_sync.proofs.Growth.{answered, asked-answered, asked-with, look-steps, none-more, scan-steps, scan-is-steps}
 use Rattle.od_sync.proofs.PlannedKinds.{IsKindIn, fetches-accepted}
+use Rattle.od_keeper.proofs.LastImages.{last_added}
 
 abbrev IsSoundIn : Image → List Step → Type 0
 IsSoundIn image drive = IsSound image drive
@@ -168,7 +169,7 @@ meets image received found sides before after local_before local_after images_be
   told = λ drive local images told local_told images_told last.
       let g = receives.told drive images told images_told last in
       met image received found sides drive local images after local_after images_between images_after g (finds.told local local_told) are
-      (keeps.ok.told (images ++ received.image ∷ []) g.images_grown (last-push images received.image));
+      (keeps.ok.told (images ++ received.image ∷ []) g.images_grown (last_added images received.image));
 }
 
 pub went-met : (image : Image) (sides : Sides) (drive : List Step) (local : List LocalStep) (images : List Image) (after : Option (List Step)) (local_after : Option (List LocalStep)) (images_after : Option (List Image))

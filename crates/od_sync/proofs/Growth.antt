@@ -27,6 +27,9 @@ use Rattle.od_sync.specs.Scans.{IsLook}
 use Rattle.od_sync.specs.Syncing.{IsSyncRequest, IsSyncStep}
 use Rattle.od_sync.specs.Syncs.{IsFromDrive}
 use Rattle.od_sync.proofs.HadThen.{had-earlier, had-longer}
+use Rattle.std.proofs.lemmas.Bool.{or_right}
+use Rattle.od_sync.proofs.Looks.{looks-edits}
+use Rattle.od_keeper.proofs.LastImages.{last_added}
 
 -- ---- lists in general
 pub none-more : {X : Type 0} (log : Option (List X)) (old : List X) → log ≡ Some old → log ≡ Some (old ++ [])
@@ -50,22 +53,13 @@ pub count-append : {X : Type 0} (p : X → Bool) (xs ys : List X) → count_by p
 count-append p xs ys = sum_by-append (λ x. cond (p x) 1 0) xs ys
 
 -- ---- the last image
-pub last-push : (images : List Image) (image : Image) → last_image (images ++ image ∷ []) ≡ image
-last-push [] image = refl
-last-push (first ∷ []) image = refl
-last-push (first ∷ next ∷ images) image = last-push (next ∷ images) image
-
 last-each : (P : Image → Type 0) (images added : List Image) → P (last_image images) → AllByRecursion P added → P (last_image (images ++ added))
 last-each P images [] first all = subst (λ (all_images : List Image). P (last_image all_images)) (sym (append-nil images)) first
 last-each P images (image ∷ added) first all =
     subst (λ (all_images : List Image). P (last_image all_images)) (append_assoc images (image ∷ []) added)
-    (last-each P (images ++ image ∷ []) added (subst P (sym (last-push images image)) all.0) all.1)
+    (last-each P (images ++ image ∷ []) added (subst P (sym (last_added images image)) all.0) all.1)
 
 -- ---- the requests of a sync
-or-true : (a b : Bool) → b ≡ true → (a || b) ≡ true
-or-true true b is = refl
-or-true false b is = is
-
 delta-asked : (token : Option (List ℕ)) (sent : Request) → sent ≡ Delta token → (is_delta sent || is_transfer sent) ≡ true
 delta-asked token sent is = ap (λ (request : Request). is_delta request || is_transfer request) is
 
@@ -76,7 +70,7 @@ pub asked-with : (token : Option (List ℕ)) (steps : List Step) → OwnAre (IsA
 asked-with token steps such = such-also (IsAskedWith token) IsSyncRequest (λ sent served heard is. delta-asked token sent is) steps such
 
 pub asked-transfers : (steps : List Step) → OwnAre IsTransfer steps → OwnAre IsSyncRequest steps
-asked-transfers steps such = such-also IsTransfer IsSyncRequest (λ sent served heard is. or-true (is_delta sent) (is_transfer sent) is) steps such
+asked-transfers steps such = such-also IsTransfer IsSyncRequest (λ sent served heard is. or_right (is_delta sent) (is_transfer sent) is) steps such
 
 -- a request for changes that was answered, after those that were not
 abbrev pub answered : Option (List ℕ) → List Step
@@ -103,16 +97,12 @@ look-step (Op op.Asides) look = absurd look
 pub look-steps : (steps : List LocalStep) → AllByRecursion IsLook steps → AllByRecursion IsSyncStep steps
 look-steps steps looks = each-so IsLook IsSyncStep look-step steps looks
 
-edit-looks : (edits : List UserEdit) → AllByRecursion IsLook (map (λ (edit : UserEdit). User edit) edits)
-edit-looks [] = tt
-edit-looks (edit ∷ edits) = (tt, edit-looks edits)
-
 -- the steps of a scan: edits of the user, the listing of the root, and the looks below it
 abbrev pub scan-steps : List UserEdit → List LocalStep → List LocalStep
 scan-steps edits rest = map (λ (edit : UserEdit). User edit) edits ++ Op (op.List []) ∷ rest
 
 pub scan-looks : (edits : List UserEdit) (rest : List LocalStep) → AllByRecursion IsLook rest → AllByRecursion IsLook (scan-steps edits rest)
-scan-looks edits rest looks = each-append IsLook (map (λ (edit : UserEdit). User edit) edits) (Op (op.List []) ∷ rest) (edit-looks edits) (tt, looks)
+scan-looks edits rest looks = each-append IsLook (map (λ (edit : UserEdit). User edit) edits) (Op (op.List []) ∷ rest) (looks-edits edits) (tt, looks)
 
 pub scan-is-steps : (edits : List UserEdit) (rest : List LocalStep) → AllByRecursion IsLook rest → AllByRecursion IsSyncStep (scan-steps edits rest)
 scan-is-steps edits rest looks = look-steps (scan-steps edits rest) (scan-looks edits rest looks)

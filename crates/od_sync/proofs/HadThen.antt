@@ -14,7 +14,7 @@ use Rattle.gd_item.specs.declared.request.Request.TheVariants.{Delta}
 use Rattle.gd_item.specs.declared.step.Step.{Step}
 use Rattle.gd_item.specs.declared.step.Step.TheVariants.{Ask}
 use Rattle.gd_item.specs.declared.step.Who.TheVariants.{Own}
-use Rattle.od_keeper.specs.Sound.{uncounted}
+use Rattle.gd_item.specs.Views.{uncounted}
 use Rattle.od_keeper.specs.declared.image.BaseRow.{BaseRow}
 use Rattle.od_mirror.specs.Pulled.{paths_of}
 use Rattle.od_tree.specs.declared.step.LocalStep.{LocalStep}
@@ -29,8 +29,10 @@ use Rattle.od_sync.specs.declared.planning.Fetching.{Fetching}
 use Rattle.od_sync.specs.declared.scanning.Node.{Node}
 use Rattle.od_sync.specs.declared.scanning.Node.TheVariants.{Folder, File}
 use Rattle.gd_names.proofs.Each.{each-so}
-use Rattle.od_sync.proofs.Compared.{both, same-file, same-path}
+use Rattle.od_tree.proofs.Paths.{same-path}
+use Rattle.od_sync.proofs.Compared.{same-file}
 use Rattle.od_sync.proofs.SameTrees.{drive-as-found}
+use Rattle.std.proofs.lemmas.Bool.{and_parts}
 
 abbrev Entry : Type 0
 Entry = List (List ℕ) × Item
@@ -39,6 +41,7 @@ Entry = List (List ℕ) × Item
 abbrev IsShown : List (List (List ℕ) × Node) → List (List ℕ) → Kind → Type 0
 IsShown nodes path (kind.Folder child_count) = Contains nodes (path, Folder)
 IsShown nodes path (kind.File digest) = Contains nodes (path, File digest)
+IsShown nodes path kind.Bare = Unit {0}
 IsShown nodes path kind.Deleted = Unit {0}
 
 abbrev IsEntryShown : List (List (List ℕ) × Node) → Entry → Type 0
@@ -54,10 +57,12 @@ IsFetchShown nodes fetch = Contains nodes (fetch.path, File fetch.digest)
 kind-shown : (nodes : List (List (List ℕ) × Node)) (path : List (List ℕ)) (node : Node) (k : Kind) → Contains nodes (path, node) → is_same_node node k ≡ true → IsShown nodes path k
 kind-shown nodes path Folder (kind.Folder child_count) there is = there
 kind-shown nodes path Folder (kind.File digest) there is = absurd (cc is)
+kind-shown nodes path Folder kind.Bare there is = tt
 kind-shown nodes path Folder kind.Deleted there is = tt
 kind-shown nodes path (File digest) (kind.Folder child_count) there is = absurd (cc is)
 kind-shown nodes path (File digest) (kind.File other) there is =
     subst (λ (node : Node). Contains nodes (path, node)) (same-file digest other is) there
+kind-shown nodes path (File digest) kind.Bare there is = tt
 kind-shown nodes path (File digest) kind.Deleted there is = tt
 
 entries-shown : (nodes found : List (List (List ℕ) × Node)) (remote : List Entry) → All (Contains nodes) found → is_same found remote ≡ true → All (IsEntryShown nodes) remote
@@ -65,8 +70,8 @@ entries-shown nodes [] [] there is = All-nil (IsEntryShown nodes)
 entries-shown nodes [] (b ∷ remote) there is = absurd (cc is)
 entries-shown nodes (a ∷ found) [] there is = absurd (cc is)
 entries-shown nodes (a ∷ found) (b ∷ remote) there is =
-    let first = both (is_same_entry a b) (is_same found remote) is in
-    let parts = both (pointwise (pointwise nat_eq) a.0 b.0) (is_same_node a.1 b.1.kind) first.0 in
+    let first = and_parts (is_same_entry a b) (is_same found remote) is in
+    let parts = and_parts (pointwise (pointwise nat_eq) a.0 b.0) (is_same_node a.1 b.1.kind) first.0 in
     All-cons (IsEntryShown nodes) b remote
     (kind-shown nodes b.0 a.1 b.1.kind
     (subst (λ (path : List (List ℕ)). Contains nodes (path, a.1)) (same-path a.0 b.0 parts.0) (All-head (Contains nodes) a found there)) parts.1)
@@ -77,6 +82,7 @@ folder-shown : (nodes : List (List (List ℕ) × Node)) (entry : Entry) (k : Kin
     → All (IsFolderShown nodes) (cons_option (folder_in entry k) folders)
 folder-shown nodes entry (kind.Folder child_count) folders shown all = All-cons (IsFolderShown nodes) entry.0 folders shown all
 folder-shown nodes entry (kind.File digest) folders shown all = all
+folder-shown nodes entry kind.Bare folders shown all = all
 folder-shown nodes entry kind.Deleted folders shown all = all
 
 folders-shown : (nodes : List (List (List ℕ) × Node)) (entries : List Entry) → All (IsEntryShown nodes) entries → All (IsFolderShown nodes) (folders_of entries)
@@ -90,6 +96,7 @@ fetch-shown : (nodes : List (List (List ℕ) × Node)) (entry : Entry) (k : Kind
 fetch-shown nodes entry (kind.Folder child_count) fetches shown all = all
 fetch-shown nodes entry (kind.File digest) fetches shown all =
     All-cons (IsFetchShown nodes) (record { path = entry.0; id = entry.1.id; digest = digest; size = entry.1.size }) fetches shown all
+fetch-shown nodes entry kind.Bare fetches shown all = all
 fetch-shown nodes entry kind.Deleted fetches shown all = all
 
 fetches-shown : (nodes : List (List (List ℕ) × Node)) (entries : List Entry) → All (IsEntryShown nodes) entries → All (IsFetchShown nodes) (fetches_of entries)

@@ -1,13 +1,16 @@
 -- The images that a pull, an agreement and placed files leave: what they have, and that they are sound.
-use Rattle.std.proofs.Common.{◌≡◌, ℕ, ◌-◌, Bool, true, false, cond, List, [], ◌∷◌, ◌++◌, map, take, find, Option, Some, None, refl, sym, ap, ◌∙◌, subst}
+use Rattle.std.proofs.Common.{◌≡◌, ℕ, ◌-◌, Bool, true, false, cond, List, [], ◌∷◌, ◌++◌, map, take, find, Option, Some, None, inl, inr, refl, sym, ap, ◌∙◌, subst}
 use Rattle.std.specs.Cmp.Lexicographic.{same_text}
 use Rattle.std.specs.List.{All, cons_option}
+use Rattle.std.specs.List.Sorted.{IsStrictlySortedBy}
+use Rattle.std.specs.Ordering.{nat_cmp}
 use Rattle.std.specs.Option.{option_map}
 use Rattle.std.specs.declared.cmp.Ordering.{Ordering}
 use Rattle.std.specs.declared.cmp.Ordering.TheVariants.{Less, Equal, Greater}
 use Rattle.std.proofs.lemmas.List.Elements.{All-nil, All-cons, All-head, All-tail, All-append, All-filter}
 use Rattle.gd_item.specs.Records.{records_of}
-use Rattle.gd_item.specs.Steps.{state_of, held_by, accepted_by}
+use Rattle.gd_item.specs.Inventory.{Inventory}
+use Rattle.gd_item.specs.Steps.{state_of, held_at, held_by, accepted_by}
 use Rattle.gd_item.specs.Tokens.{token_of_text}
 use Rattle.gd_item.specs.declared.digest.Digest.{Digest}
 use Rattle.gd_item.specs.declared.item.Item.{Item}
@@ -18,7 +21,8 @@ use Rattle.gd_item.specs.declared.step.Step.{Step}
 use Rattle.gd_item.specs.declared.token.Token.{Token}
 use Rattle.od_keeper.proofs.Growing.{sound-stays}
 use Rattle.od_keeper.specs.Images.{by_id, by_path, put_by, put_in_order, put_all, without_ids, without_paths, replaced, reset_image, applied}
-use Rattle.od_keeper.specs.Sound.{uncounted, IsAccepted, TokenIs, ItemsAre, IsSound}
+use Rattle.gd_item.specs.Views.{uncounted, AreItemsOf, IsItemOf, ItemsAre, TokenIs}
+use Rattle.od_keeper.specs.Sound.{IsAccepted, IsSound}
 use Rattle.od_keeper.specs.declared.image.Agreed.{Agreed}
 use Rattle.od_keeper.specs.declared.image.Agreed.TheVariants as agreed
 use Rattle.od_keeper.specs.declared.image.BaseRow.{BaseRow}
@@ -32,7 +36,7 @@ use Rattle.od_sync.specs.Doing.{AreAcceptedRows}
 use Rattle.od_sync.specs.PullChanges.{ItemsRise, IsPullChange}
 use Rattle.od_sync.specs.declared.scanning.Node.{Node}
 use Rattle.od_sync.specs.declared.scanning.Node.TheVariants as node
-use Rattle.od_sync.proofs.RisingNumbers.{none-rise, records-rise}
+use Rattle.gd_laws.proofs.RisingNumbers.{records-rise}
 
 -- without no ids, and no paths, all stays
 all-items : (items : List Item) → without_ids [] items ≡ items
@@ -56,9 +60,31 @@ pull_applied image items token change is = (
   λ rise view. ap (λ b. put_all by_id change.put (without_ids change.gone (reset_image b image).items)) is.no_reset ∙ is.items_are rise view,
 )
 
+-- items that a client has are numbered as the drive's, which rise
+abbrev ids : List Item → List ℕ
+ids items = map (λ (item : Item). item.id.0) items
+
+same-id : (plain : Bool) (item whole : Item) → IsItemOf plain item whole → item.id.0 ≡ whole.id.0
+same-id plain item whole (inl same) = ap (λ (i : Item). i.id.0) same
+same-id plain item whole (inr lacks) = ap (λ (i : Item). i.id.0) lacks.1.rest
+
+same-ids : (plain : Bool) (items records : List Item) → AreItemsOf plain items records → ids records ≡ ids items
+same-ids plain [] [] are = refl
+same-ids plain [] (whole ∷ records) are = absurd are
+same-ids plain (item ∷ items) [] are = absurd are
+same-ids plain (item ∷ items) (whole ∷ records) are =
+    ap (λ n. n ∷ ids records) (sym (same-id plain item whole are.0)) ∙ ap (λ ns. item.id.0 ∷ ns) (same-ids plain items records are.1)
+
+none-rise : ItemsRise []
+unfolding IsStrictlySortedBy
+none-rise = tt
+
 token_items_rise : (items : List Item) (log : List Step) (token : Option Token) → TokenIs items log token → ItemsRise items
 token_items_rise items log None is = absurd is
-token_items_rise items log (Some token) is = records-rise items (take (token.position - 1) (state_of log).effects) is.items_then
+token_items_rise items log (Some token) is =
+    let held : Inventory = held_at token.position log in
+    subst (IsStrictlySortedBy nat_cmp) (same-ids (state_of log).plain items (records_of held) is.items_then)
+    (records-rise (records_of held) (take (token.position - 1) (state_of log).effects) refl)
 
 items_rise : (items : List Item) (log : List Step) (token : Option (List ℕ)) → ItemsAre items log token → ItemsRise items
 items_rise items log None are = subst ItemsRise (sym are) none-rise
@@ -132,11 +158,13 @@ file-if versions false digest other is accepted = tt
 file-accepted : (versions : List Version) (digest : Digest) (kind : Kind) → IsKindAccepted versions kind → WhereAgreed versions (agreed_file digest kind)
 file-accepted versions digest (kind.Folder child_count) accepted = tt
 file-accepted versions digest (kind.File other) accepted = file-if versions (is_digest digest other) digest other refl accepted
+file-accepted versions digest kind.Bare accepted = tt
 file-accepted versions digest kind.Deleted accepted = tt
 
 folder-accepted : (versions : List Version) (kind : Kind) → WhereAgreed versions (agreed_folder kind)
 folder-accepted versions (kind.Folder child_count) = tt
 folder-accepted versions (kind.File digest) = tt
+folder-accepted versions kind.Bare = tt
 folder-accepted versions kind.Deleted = tt
 
 node-accepted : (versions : List Version) (node : Node) (kind : Kind) → IsKindAccepted versions kind → WhereAgreed versions (agreed_node node kind)

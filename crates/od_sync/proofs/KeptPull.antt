@@ -29,10 +29,10 @@ is-last-page token old after last =
     record { size = last.heard.size; given = last.heard.page_is; end = ends.end; link_is = ends.is }
 
 module _ (items : List Item) (token : Option (List ℕ)) (old : List Step) (after : Option (List Step)) (are : ItemsAre items old token) where
-  pub view-items : (view : MirrorView) (pulled : PullsView items token old after view) → (state_of (seen old pulled.last)).plain ≡ false
+  pub view-items : (view : MirrorView) (pulled : PullsView items token old after view)
       → map uncounted view.items ≡ map uncounted (records_of (held_by (seen old pulled.last)))
-  view-items view pulled whole =
-      pull-items (seen old pulled.last) pulled.last.page items token view (items-later items token old pulled.last.heard.part are) (is-last-page token old after pulled.last) pulled.view_is whole
+  view-items view pulled =
+      pull-items (seen old pulled.last) pulled.last.page items token view (items-later items token old pulled.last.heard.part are) (is-last-page token old after pulled.last) pulled.view_is pulled.last.heard.plain
 
   pub view-sound : (view : MirrorView) (pulled : PullsView items token old after view) → ItemsAre view.items (seen old pulled.last) (Some view.token)
   view-sound view pulled =

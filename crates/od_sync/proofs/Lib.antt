@@ -2,10 +2,8 @@ pub mod Sends
 pub mod PulledViews
 pub mod Looks
 pub mod Compared
-pub mod Below
 pub mod Scanned
 pub mod Finding
-pub mod LeftAlone
 pub mod Undisturbing
 pub mod KeptPull
 pub mod Made
@@ -16,7 +14,6 @@ pub mod ImagesAfter
 pub mod Batched
 pub mod Done
 pub mod SyncAlone
-pub mod CountsRose
 pub mod Growth
 pub mod ReceivedImages
 pub mod Going
@@ -27,7 +24,6 @@ pub mod Rounding
 pub mod Running
 pub mod SyncsSaid
 pub mod Uncounted
-pub mod Contents
 pub mod SameTrees
 pub mod HadThen
 pub mod LooksFound

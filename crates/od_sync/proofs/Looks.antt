@@ -37,7 +37,7 @@ pub looks-append : (steps more : List LocalStep) → AllByRecursion IsLook steps
 looks-append [] more first second = second
 looks-append (step ∷ steps) more first second = (first.0, looks-append steps more first.1 second)
 
-looks-edits : (edits : List UserEdit) → AllByRecursion IsLook (map (λ (edit : UserEdit). User edit) edits)
+pub looks-edits : (edits : List UserEdit) → AllByRecursion IsLook (map (λ (edit : UserEdit). User edit) edits)
 looks-edits [] = tt
 looks-edits (edit ∷ edits) = (tt, looks-edits edits)
 
@@ -122,7 +122,7 @@ looks-weaker a b before after less looks = record {
 }
 
 -- ---- what a call tells without edits of the user
-no-edits : (edits : List UserEdit) (more : List LocalStep) → NoUser (map (λ (edit : UserEdit). User edit) edits ++ more) → edits ≡ []
+pub no-edits : (edits : List UserEdit) (more : List LocalStep) → NoUser (map (λ (edit : UserEdit). User edit) edits ++ more) → edits ≡ []
 no-edits [] more alone = refl
 no-edits (edit ∷ edits) more alone = absurd alone.0
 

@@ -28,6 +28,7 @@ use Rattle.od_sync.specs.Findings.{found_by, found_in}
 use Rattle.od_sync.specs.Looks.{AllUnlike, AreWhole, IsUnlike, IsWithin, LastSame, Entries, asked_trees, found_until, scans, steps_until}
 use Rattle.od_sync.specs.Scans.{is_root_listing}
 use Rattle.od_sync.proofs.Growth.{answered, count-append, scan-steps}
+use Rattle.od_sync.proofs.Sends.{spent-step}
 
 -- ---- lists in general
 any-none : {X : Type 0} (p : X → Bool) (P : X → Type 0) → ((x : X) → P x → p x ≡ false) → (xs : List X) → AllByRecursion P xs → list_any p xs ≡ false
@@ -211,14 +212,8 @@ pub asked-none : (drive more : List Step) → OwnAre IsTransfer more → asked_t
 asked-none drive more such = asked-nothing drive more (transfers-not-answered more such)
 
 -- a send without a page is not answered
-spent-none : (request : Request) (step : Step) → IsSuch (IsSpent request) step → is_answered_delta step ≡ false
-spent-none request (Ask Own sent true true) such = absurd (cc (such.1 refl))
-spent-none request (Ask Own sent served heard) such = refl
-spent-none request (Ask Other sent served heard) such = refl
-spent-none request (Event event) such = refl
-
 spent-not-answered : (request : Request) (spent : List Step) → OwnAre (IsSpent request) spent → list_any is_answered_delta spent ≡ false
-spent-not-answered request spent such = any-none is_answered_delta (IsSuch (IsSpent request)) (spent-none request) spent such
+spent-not-answered request spent such = any-none is_answered_delta (IsSuch (IsSpent request)) (spent-step request) spent such
 
 pub asked-look : (drive spent : List Step) (token : Option (List ℕ)) → OwnAre (IsSpent (Delta token)) spent → asked_trees drive (spent ++ answered token) ≡ scanned (tree_of (held_by (drive ++ spent))) ∷ []
 asked-look drive spent token such =

@@ -18,6 +18,7 @@ use Rattle.gd_names.proofs.Each.{each-so, each-append, each-first, each-second}
 use Rattle.od_tree.proofs.Steps.{local-snoc}
 use Rattle.od_sync.specs.Doing.{CanStand, IsMaking, IsMakingOf, Made, Makes, placed_file}
 use Rattle.od_sync.specs.Making.{MakesOne, PlacesOne}
+use Rattle.od_sync.proofs.Looks.{no-edits}
 
 -- ---- how the log grows
 module _ (IsFolder : List (List ℕ) → Type 0) (IsFile : List (List ℕ) → List ℕ → Type 0) where
@@ -147,10 +148,6 @@ in-two {IsFolder} {NowFolder} {IsFile} {NowFile} before now after old part first
     }
 
 -- ---- one call where the user leaves the folder alone
-no-edits : (edits : List UserEdit) (more : List LocalStep) → NoUser (map (λ (edit : UserEdit). User edit) edits ++ more) → edits ≡ []
-no-edits [] more alone = refl
-no-edits (edit ∷ edits) more alone = absurd alone.0
-
 op-alone : (call : TreeOp) (old part : List LocalStep) (edits : List UserEdit) (after : Option (List LocalStep)) → after ≡ Some (old ++ part) → NoUser part → after ≡ Some (with_op old edits call)
     → old ++ part ≡ old ++ Op call ∷ []
 op-alone call old part edits after grown alone is =

@@ -37,6 +37,7 @@ IsKindIn versions entry = IsKindAccepted versions entry.1.kind
 folder-below : (entry : Entry) (k : Kind) (folder : List (List ℕ)) → IsBelow entry → folder_in entry k ≡ Some folder → 0 < length folder
 folder-below entry (kind.Folder child_count) folder below is = let same : entry.0 ≡ folder = cc is in subst (λ (path : List (List ℕ)). 0 < length path) same below
 folder-below entry (kind.File digest) folder below is = absurd (cc is)
+folder-below entry kind.Bare folder below is = absurd (cc is)
 folder-below entry kind.Deleted folder below is = absurd (cc is)
 
 pub folders-below : (rows : List BaseRow) (local : List (List (List ℕ) × Node)) (remote : List Entry) → All IsBelow remote → All (λ folder. 0 < length folder) (planned_folders rows local remote)
@@ -50,6 +51,7 @@ file-below entry (kind.Folder child_count) fetch below is = absurd (cc is)
 file-below entry (kind.File digest) fetch below is =
     let same : record { path = entry.0; id = entry.1.id; digest = digest; size = entry.1.size } ≡ fetch = cc is in
     subst (λ (f : Fetching). 0 < length f.path) same below
+file-below entry kind.Bare fetch below is = absurd (cc is)
 file-below entry kind.Deleted fetch below is = absurd (cc is)
 
 pub fetches-below : (rows : List BaseRow) (local : List (List (List ℕ) × Node)) (remote : List Entry) → All IsBelow remote → All (λ (fetch : Fetching). 0 < length fetch.path) (planned_fetches rows local remote)
@@ -62,6 +64,7 @@ file-accepted versions entry (kind.Folder child_count) fetch accepted is = absur
 file-accepted versions entry (kind.File digest) fetch accepted is =
     let same : record { path = entry.0; id = entry.1.id; digest = digest; size = entry.1.size } ≡ fetch = cc is in
     subst (λ (f : Fetching). IsAccepted versions (agreed.File f.digest)) same accepted
+file-accepted versions entry kind.Bare fetch accepted is = absurd (cc is)
 file-accepted versions entry kind.Deleted fetch accepted is = absurd (cc is)
 
 pub fetches-accepted : (versions : List Version) (rows : List BaseRow) (local : List (List (List ℕ) × Node)) (remote : List Entry) → All (IsKindIn versions) remote

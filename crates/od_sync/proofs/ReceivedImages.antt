@@ -14,7 +14,8 @@ use Rattle.gd_item.specs.declared.step.Step.TheVariants.{Ask}
 use Rattle.gd_item.specs.declared.step.Who.TheVariants.{Own}
 use Rattle.od_keeper.proofs.Growing.{sound-stays}
 use Rattle.od_keeper.specs.Images.{applied}
-use Rattle.od_keeper.specs.Sound.{IsSound, ItemsAre, IsAccepted}
+use Rattle.gd_item.specs.Views.{ItemsAre}
+use Rattle.od_keeper.specs.Sound.{IsSound, IsAccepted}
 use Rattle.od_keeper.specs.declared.image.BaseRow.{BaseRow}
 use Rattle.od_keeper.specs.declared.image.Change.{Change}
 use Rattle.od_keeper.specs.declared.image.Image.{Image}
@@ -35,8 +36,8 @@ use Rattle.od_sync.specs.declared.receiving.Received.{Received}
 use Rattle.od_sync.proofs.Chained.{chain-page}
 use Rattle.od_sync.proofs.ImagesAfter.{pull_applied, pulled_items_rise, sound_items_rise}
 use Rattle.od_sync.proofs.KeptPull.{view-items, view-sound}
-use Rattle.od_sync.proofs.PageTokens.{page_token_servable}
-use Rattle.od_sync.proofs.PathsBelow.{paths_below}
+use Rattle.gd_laws.proofs.Tokens.{last-served}
+use Rattle.od_mirror.proofs.Placing.{paths_below}
 
 -- ---- the change of a pull
 pub received-is : (image next : Image) (kept items : List Item) (token : List ℕ) (remote : List (List (List ℕ) × Item)) (change : Change) → kept ≡ image.items → IsPullChange kept items token change
@@ -64,7 +65,7 @@ view-link items token drive after view pulled =
 view-servable : (items : List Item) (token : Option (List ℕ)) (drive : List Step) (after : Option (List Step)) (view : MirrorView) (pulled : PullsView items token drive after view)
     → is_servable (state_of (seen drive pulled.last)) (Delta (Some view.token)) ≡ true
 view-servable items token drive after view pulled =
-    page_token_servable (seen drive pulled.last) token pulled.last.heard.size pulled.last.page view.token pulled.last.heard.page_is (view-link items token drive after view pulled)
+    last-served (seen drive pulled.last) token pulled.last.heard.size pulled.last.page view.token pulled.last.heard.page_is (view-link items token drive after view pulled)
 
 -- ---- a pull and its commit
 got-sound : (image : Image) (received : Received) (view : MirrorView) (drive : List Step) (after : Option (List Step)) (pulled : PullsView image.items image.token drive after view)

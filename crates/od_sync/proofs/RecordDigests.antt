@@ -6,26 +6,28 @@ use Rattle.gd_item.specs.Records.{kind_at, record_of, records_of}
 use Rattle.gd_item.specs.Steps.{held_by, accepted_by}
 use Rattle.gd_item.specs.declared.item.Item.{Item}
 use Rattle.gd_item.specs.declared.item.Kind.{Kind}
-use Rattle.gd_item.specs.declared.item.Kind.TheVariants.{Folder, File, Deleted}
+use Rattle.gd_item.specs.declared.item.Kind.TheVariants.{Folder, File, Bare, Deleted}
 use Rattle.gd_item.specs.declared.live.LiveItem.{LiveItem}
 use Rattle.gd_item.specs.declared.live.Version.{Version}
 use Rattle.gd_item.specs.declared.step.Step.{Step}
 use Rattle.gd_item.proofs.LogsVersions.{IsKnown}
-use Rattle.od_keeper.specs.Sound.{uncounted_kind, uncounted}
+use Rattle.gd_item.specs.Views.{uncounted_kind, uncounted}
 use Rattle.od_mirror.specs.Pulled.{paths_of}
 use Rattle.od_sync.specs.Comparing.{IsKindAccepted}
-use Rattle.od_sync.proofs.Contents.{items-known}
-use Rattle.od_sync.proofs.Placing.{each-at-path}
+use Rattle.gd_laws.proofs.Placing.{items-known}
+use Rattle.od_mirror.proofs.Placing.{each-at-path}
 
 -- ---- whatever the numbers of children
 without-count : (versions : List Version) (kind : Kind) → IsKindAccepted versions kind → IsKindAccepted versions (uncounted_kind kind)
 without-count versions (Folder child_count) accepted = tt
 without-count versions (File digest) accepted = accepted
+without-count versions Bare accepted = tt
 without-count versions Deleted accepted = tt
 
 with-count : (versions : List Version) (kind : Kind) → IsKindAccepted versions (uncounted_kind kind) → IsKindAccepted versions kind
 with-count versions (Folder child_count) accepted = tt
 with-count versions (File digest) accepted = accepted
+with-count versions Bare accepted = tt
 with-count versions Deleted accepted = tt
 
 module _ (versions : List Version) where

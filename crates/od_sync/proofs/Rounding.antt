@@ -18,7 +18,8 @@ use Rattle.gd_item.specs.declared.step.Step.{Step}
 use Rattle.od_keeper.proofs.Growing.{sound-stays, sound-empty}
 use Rattle.od_keeper.specs.Images.{applied, by_path, empty_image, put_all, without_paths}
 use Rattle.od_keeper.specs.Keeping.{Stay, last_image}
-use Rattle.od_keeper.specs.Sound.{IsSound, uncounted}
+use Rattle.gd_item.specs.Views.{uncounted}
+use Rattle.od_keeper.specs.Sound.{IsSound}
 use Rattle.od_keeper.specs.declared.image.BaseRow.{BaseRow}
 use Rattle.od_keeper.specs.declared.image.Image.{Image}
 use Rattle.od_mirror.specs.Pulled.{paths_of}
@@ -53,7 +54,7 @@ use Rattle.od_sync.specs.declared.ends.SyncStop.TheVariants.{BadPages, Unserved}
 use Rattle.od_sync.specs.declared.looking.Sides.{Sides}
 use Rattle.od_sync.specs.declared.planning.Fetching.{Fetching}
 use Rattle.od_sync.specs.declared.scanning.Node.{Node}
-use Rattle.od_sync.proofs.Chained.{chain-then, chain-transfers}
+use Rattle.od_sync.proofs.Chained.{chain-then, chain-transfers, chained-all}
 use Rattle.od_sync.proofs.Compares.{answered-keeps, compared-same, edited-none, listed-last, look-same, look-unlike, looks-keep, none-unlike, rest-alone, unlike-before}
 use Rattle.od_sync.proofs.FreshPlans.{fresh_plan}
 use Rattle.od_sync.proofs.HadThen.{had-looks, planned-had}
@@ -65,7 +66,7 @@ use Rattle.od_sync.proofs.LooksFound.{unlike-then, until-append, until-makes, un
 use Rattle.od_sync.proofs.Made.{makes-steps}
 use Rattle.od_sync.proofs.PlannedKinds.{IsKindIn, fetches-accepted}
 use Rattle.od_sync.proofs.ServedTokens.{is-served}
-use Rattle.od_sync.proofs.CountsRose.{rose-later}
+use Rattle.gd_names.proofs.Streams.{rose-later}
 
 -- the folder's log grows by what a plan makes after a look
 abbrev PlanMade : Sides → List LocalStep → Option (List LocalStep) → Type 0
@@ -242,7 +243,7 @@ module _ {image : Image} {sides : Sides} {drive : List Step} {local : List Local
     rounded = record {
       grew = met-grew;
       within = met-within;
-      chained = (sides.image.token, met-chained);
+      chained = chained-all (last_image images).token sides.image.token drive (m.spent ++ answered image.token) met-chained;
       chained_on = met-chained-on;
       looked = met-looked;
       begins = met-begins;
@@ -314,7 +315,7 @@ module _ {image : Image} {sides : Sides} {drive : List Step} {local : List Local
     rounded = record {
       grew = acted-grew a made;
       within = within-done (m.spent ++ answered image.token) a.did.more (scan-steps m.edits m.rest) a.did.part met-within a.did.transfers (made-steps a.did.part made a.did.local_grown);
-      chained = (sides.image.token, transfers-chained a.did.more a.did.transfers);
+      chained = chained-all (last_image images).token sides.image.token drive ((m.spent ++ answered image.token) ++ a.did.more) (transfers-chained a.did.more a.did.transfers);
       chained_on =
           subst (λ (token : Option (List ℕ)). IsChained (last_image images).token drive ((m.spent ++ answered image.token) ++ a.did.more) token)
           (sym (token-kept a.did.added kept a.did.images_grown)) (transfers-chained a.did.more a.did.transfers);
@@ -373,7 +374,7 @@ module _ {image : Image} {sides : Sides} {drive : List Step} {local : List Local
       grew = grew-more w.more w.part w.added met-grew w.asked w.steps (λ sound. w.sound (agreed-sound-then sound, met-kinds sound)) (made-had w.more w.part made w.local_grown);
       within =
           within-done (m.spent ++ answered image.token) w.more (scan-steps m.edits m.rest) w.part met-within (went-transfers w.more transfers w.drive_grown) (made-steps w.part made w.local_grown);
-      chained = (sides.image.token, transfers-chained w.more (went-transfers w.more transfers w.drive_grown));
+      chained = chained-all (last_image images).token sides.image.token drive ((m.spent ++ answered image.token) ++ w.more) (transfers-chained w.more (went-transfers w.more transfers w.drive_grown));
       chained_on = tt;
       looked = tt;
       begins = tt;

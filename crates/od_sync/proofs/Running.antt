@@ -14,7 +14,7 @@ use Rattle.od_keeper.specs.declared.image.Image.{Image}
 use Rattle.od_tree.specs.Calls.{edited}
 use Rattle.od_tree.specs.Undisturbed.{IsOp}
 use Rattle.od_tree.specs.declared.step.LocalStep.{LocalStep}
-use Rattle.od_sync.specs.Chains.{IsChained}
+use Rattle.od_sync.specs.Chains.{Chained, IsChained}
 use Rattle.od_sync.specs.Comparing.{is_same}
 use Rattle.od_sync.specs.Deltas.{is_answered_delta, last_heard_after}
 use Rattle.od_sync.specs.Ends.{stop_of_keeper}
@@ -25,14 +25,14 @@ use Rattle.od_sync.specs.Looks.{AllUnlike, AreWhole, IsWithin, LastSame, found_u
 use Rattle.od_sync.specs.declared.ends.SyncStop.{SyncStop}
 use Rattle.od_sync.specs.declared.ends.SyncStop.TheVariants.{BadPages, Unserved}
 use Rattle.od_sync.specs.declared.looking.Sides.{Sides}
-use Rattle.od_sync.proofs.Chained.{chain-then}
+use Rattle.od_sync.proofs.Chained.{chain-then, chained-all, chained-then}
 use Rattle.od_sync.proofs.Compares.{compared-unlike}
 use Rattle.od_sync.proofs.Growth.{answered, count-append, each-first, each-second, grew-sound, grew-then, scan-steps}
 use Rattle.od_sync.proofs.Rounding.{drive-then, images-then, local-then, met-begins, met-chained, met-chained-on, met-found-unlike, met-grew, met-looked, met-looks, met-sound, met-unlike, met-whole, met-within}
 use Rattle.od_sync.proofs.Sends.{last-append}
 use Rattle.od_sync.proofs.LooksFound.{same-then, unlike-then, until-append, whole-then, within-then}
 use Rattle.od_sync.proofs.ServedTokens.{is-served}
-use Rattle.od_sync.proofs.CountsRose.{rose-on}
+use Rattle.gd_names.proofs.Streams.{rose-on}
 
 -- ---- one round more, after which the others are known
 later-unserved : (first second : List Step) → EndsWithUnserved second → EndsWithUnserved (first ++ second)
@@ -60,6 +60,9 @@ whole-on (Err stop) local p1 lmid p2 is begins first second = tt
 chained-more : (a b c : Option (List ℕ)) (drive m1 mid m2 : List Step) → mid ≡ drive ++ m1 → IsChained a drive m1 b → IsChained b mid m2 c → IsChained a drive (m1 ++ m2) c
 chained-more a b c drive m1 mid m2 is first second = chain-then a b c drive m1 m2 first (subst (λ (log : List Step). IsChained b log m2 c) is second)
 
+chained-last : (a b : Option (List ℕ)) (drive m1 mid m2 : List Step) → mid ≡ drive ++ m1 → IsChained a drive m1 b → Chained b mid m2 → Chained a drive (m1 ++ m2)
+chained-last a b drive m1 mid m2 is first second = chained-then a b drive m1 m2 first (subst (λ (log : List Step). Chained b log m2) is second)
+
 chained-on : (result : Result Bool SyncStop) (a b c : Option (List ℕ)) (drive m1 mid m2 : List Step) → mid ≡ drive ++ m1 → IsChained a drive m1 b → OnOk result (IsChained b mid m2 c) → OnOk result (IsChained a drive (m1 ++ m2) c)
 chained-on (Ok settled) a b c drive m1 mid m2 is first second = chained-more a b c drive m1 mid m2 is first second
 chained-on (Err stop) a b c drive m1 mid m2 is first second = tt
@@ -70,7 +73,7 @@ ran-more : {drive m1 mid m2 now : List Step} {local p1 lmid p2 lnow : List Local
 ran-more {drive} {m1} {mid} {m2} {now} {local} {p1} {lmid} {p2} {lnow} {images} {a1} {imid} {a2} {inow} {next} {result} k fa fb fc rises later first second = record {
   grew = grew-then first.grew second.grew;
   within = within-then m1 m2 p1 p2 first.within second.within;
-  chained = (second.chained.0, chained-more (last_image images).token (last_image imid).token second.chained.0 drive m1 mid m2 first.grew.drive_is first.chained_on second.chained.1);
+  chained = chained-last (last_image images).token (last_image imid).token drive m1 mid m2 first.grew.drive_is first.chained_on second.chained;
   chained_on = chained-on result (last_image images).token (last_image imid).token (last_image inow).token drive m1 mid m2 first.grew.drive_is first.chained_on second.chained_on;
   begins = begins-then result local p1 lmid p2 first.grew.local_is first.begins second.begins;
   whole = whole-on result local p1 lmid p2 first.grew.local_is second.begins first.whole second.whole;
@@ -166,7 +169,7 @@ runs-unlike {image} {sides} {drive} {local} {images} {after} {local_after} {imag
   ran = record {
     grew = met-grew m last;
     within = met-within m last;
-    chained = (sides.image.token, met-chained m last);
+    chained = chained-all (last_image images).token sides.image.token drive (m.spent ++ answered image.token) (met-chained m last);
     chained_on = met-chained-on m last;
     begins = met-begins m last;
     whole = met-whole m last;
@@ -295,7 +298,7 @@ runs-not-loaded k fb fn fault stop log local_log images_before images_after is s
         had = λ sound. tt;
       };
       within = record { answered = omega arith; sent = omega arith; listed = omega arith };
-      chained = ((last_image images).token, refl);
+      chained = chained-all (last_image images).token (last_image images).token drive [] refl;
       chained_on = tt;
       begins = tt;
       whole = tt;

@@ -2,13 +2,13 @@
 use Rattle.std.proofs.Common.{◌≡◌, ℕ, Bool, true, false, ◌&&◌, nat_eq, List, Option, Some, None, refl, ap, sym}
 use Rattle.std.specs.Cmp.Lexicographic.{pointwise, same_text}
 use Rattle.std.specs.Option.{option_eq}
-use Rattle.std.proofs.lemmas.Bool.{eqb-true}
+use Rattle.std.proofs.lemmas.Bool.{and_parts, eqb-true}
 use Rattle.gd_item.specs.contracts.item.KindPartialEq.TheImpl as kinds
 use Rattle.gd_item.specs.declared.digest.Digest.{Digest}
 use Rattle.gd_item.specs.declared.id.ItemId.{ItemId}
 use Rattle.gd_item.specs.declared.item.Item.{Item}
 use Rattle.gd_item.specs.declared.item.Kind.{Kind}
-use Rattle.gd_item.specs.declared.item.Kind.TheVariants.{Folder, File, Deleted}
+use Rattle.gd_item.specs.declared.item.Kind.TheVariants.{Folder, File, Bare, Deleted}
 use Rattle.gd_item.specs.declared.item.Tag.{Tag}
 use Rattle.od_sync.specs.PullChanges.{is_same_kind, is_same_item}
 
@@ -16,17 +16,20 @@ use Rattle.od_sync.specs.PullChanges.{is_same_kind, is_same_item}
 pub kinds-compared : (a b : Kind) → kinds.ghosts.eq a b ≡ is_same_kind a b
 kinds-compared (Folder m) (Folder n) = refl
 kinds-compared (Folder m) (File d) = refl
+kinds-compared (Folder m) Bare = refl
 kinds-compared (Folder m) Deleted = refl
 kinds-compared (File c) (Folder n) = refl
 kinds-compared (File c) (File d) = refl
+kinds-compared (File c) Bare = refl
 kinds-compared (File c) Deleted = refl
+kinds-compared Bare (Folder n) = refl
+kinds-compared Bare (File d) = refl
+kinds-compared Bare Bare = refl
+kinds-compared Bare Deleted = refl
 kinds-compared Deleted (Folder n) = refl
 kinds-compared Deleted (File d) = refl
+kinds-compared Deleted Bare = refl
 kinds-compared Deleted Deleted = refl
-
-both : (a b : Bool) → (a && b) ≡ true → (a ≡ true) × (b ≡ true)
-both true b is = (refl, is)
-both false b is = absurd (cc is)
 
 options-same : {X : Type 0} (same : X → X → Bool) → ((x y : X) → same x y ≡ true → x ≡ y) → (a b : Option X) → option_eq same a b ≡ true → a ≡ b
 options-same same each None None is = refl
@@ -49,12 +52,19 @@ digests-same a b is = ap (λ (bytes : List ℕ). record { 0 = bytes }) (texts-sa
 kinds-same : (a b : Kind) → is_same_kind a b ≡ true → a ≡ b
 kinds-same (Folder m) (Folder n) is = ap (λ k. Folder k) (eqb-true m n is)
 kinds-same (Folder m) (File d) is = absurd (cc is)
+kinds-same (Folder m) Bare is = absurd (cc is)
 kinds-same (Folder m) Deleted is = absurd (cc is)
 kinds-same (File c) (Folder n) is = absurd (cc is)
 kinds-same (File c) (File d) is = ap (λ x. File x) (digests-same c d is)
+kinds-same (File c) Bare is = absurd (cc is)
 kinds-same (File c) Deleted is = absurd (cc is)
+kinds-same Bare (Folder n) is = absurd (cc is)
+kinds-same Bare (File d) is = absurd (cc is)
+kinds-same Bare Bare is = refl
+kinds-same Bare Deleted is = absurd (cc is)
 kinds-same Deleted (Folder n) is = absurd (cc is)
 kinds-same Deleted (File d) is = absurd (cc is)
+kinds-same Deleted Bare is = absurd (cc is)
 kinds-same Deleted Deleted is = refl
 
 -- an item of its parts
@@ -68,13 +78,13 @@ item-is a = refl
 
 pub items-same : (a b : Item) → is_same_item a b ≡ true → a ≡ b
 items-same a b is =
-    let first = both _ _ is in
-    let second = both _ _ first.1 in
-    let third = both _ _ second.1 in
-    let fourth = both _ _ third.1 in
-    let fifth = both _ _ fourth.1 in
-    let sixth = both _ _ fifth.1 in
-    let seventh = both _ _ sixth.1 in
+    let first = and_parts _ _ is in
+    let second = and_parts _ _ first.1 in
+    let third = and_parts _ _ second.1 in
+    let fourth = and_parts _ _ third.1 in
+    let fifth = and_parts _ _ fourth.1 in
+    let sixth = and_parts _ _ fifth.1 in
+    let seventh = and_parts _ _ sixth.1 in
     let id : a.id ≡ b.id = ids-same a.id b.id first.0 in
     let parent : a.parent ≡ b.parent = options-same (λ (x y : ItemId). nat_eq x.0 y.0) ids-same a.parent b.parent second.0 in
     let parent_path : a.parent_path ≡ b.parent_path = options-same (pointwise nat_eq) texts-same a.parent_path b.parent_path third.0 in

@@ -7,9 +7,9 @@ use Rattle.gd_item.specs.Steps.{held_by, accepted_by}
 use Rattle.gd_item.specs.Trees.{tree_of}
 use Rattle.gd_item.specs.declared.item.Item.{Item}
 use Rattle.gd_item.specs.declared.step.Step.{Step}
-use Rattle.gd_store.proofs.Logs.{sound-log}
-use Rattle.od_keeper.specs.Sound.{uncounted}
-use Rattle.od_mirror.specs.Drive.{placed_items}
+use Rattle.gd_laws.proofs.Logs.{sound-log}
+use Rattle.gd_item.specs.Views.{uncounted}
+use Rattle.gd_laws.specs.Placed.{placed_items}
 use Rattle.od_mirror.specs.Pulled.{paths_of}
 use Rattle.od_mirror.proofs.Standing.{paths-of-placed, tree-of-placed}
 use Rattle.od_tree.specs.Collisions.{contents, NoCollision}
@@ -18,7 +18,7 @@ use Rattle.od_tree.specs.declared.step.LocalStep.{LocalStep}
 use Rattle.od_sync.specs.Comparing.{is_same, scanned}
 use Rattle.od_sync.specs.declared.scanning.Node.{Node}
 use Rattle.od_sync.proofs.Compared.{bytes_of, same-scanned, same-trees, same-entries}
-use Rattle.od_sync.proofs.Contents.{folder-among, drive-among, apart-before}
+use Rattle.od_tree.proofs.Contents.{folder-among, drive-among, apart-before}
 use Rattle.od_sync.proofs.Uncounted.{same-uncounted}
 
 pub same-as-drive : (local more : List LocalStep) (drive later : List Step) (items : List Item) → map uncounted items ≡ map uncounted (records_of (held_by drive))

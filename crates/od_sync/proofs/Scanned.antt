@@ -9,7 +9,7 @@ use Rattle.gd_names.specs.Ordered.{in_order}
 use Rattle.gd_item.specs.Places.{last_name}
 use Rattle.gd_item.specs.Records.{digest_record}
 use Rattle.gd_names.proofs.Ordered.{Path, Rises, In, kept, all-in, all-in-order-from, rises-in-order-from, in-order-has, kept-in-order, rises-kept}
-use Rattle.od_mirror.proofs.Mapped.{mapped, in-order-mapped}
+use Rattle.gd_names.proofs.Mapped.{mapped, in-order-mapped}
 use Rattle.od_tree.specs.Listing.{is_right_below, entries_in, entry_of}
 use Rattle.od_tree.specs.Local.{is_path, is_from, spot_at, file_at, file_in, is_folder_spot, is_folder_at, bytes_in, tree_of_spots}
 use Rattle.od_tree.specs.Shape.{IsTree}
@@ -21,8 +21,8 @@ use Rattle.od_sync.specs.Findings.{found_file, found_folder, listing_at}
 use Rattle.od_sync.specs.Visits.{Turn, Visits, pushed, pushed_if}
 use Rattle.od_sync.specs.declared.scanning.Node.{Node}
 use Rattle.od_sync.specs.declared.scanning.Node.TheVariants.{Folder, File}
-use Rattle.od_sync.proofs.Compared.{same-path}
-use Rattle.od_sync.proofs.Below.{is_below, from, below, spread, Under, step_to, step-right, step-from, right-parts, right-name, right-then-below, spread-all, here-and-below, in-kept-under, kept-twice}
+use Rattle.od_tree.proofs.Paths.{same-path}
+use Rattle.od_tree.proofs.Below.{is_below, from, below, spread, Under, step_to, step-right, step-from, right-parts, right-name, right-then-below, spread-all, here-and-below, in-kept-under, kept-twice}
 
 -- the entries beside their paths, in order
 abbrev beside : List Spot → List (Path × Spot)

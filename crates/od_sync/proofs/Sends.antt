@@ -1,14 +1,18 @@
 -- One send of a request for changes, and one after others.
-use Rattle.std.proofs.Common.{◌≡◌, ℕ, zero, suc, ◌+◌, ◌<◌, ◌≤◌, ◌⊎◌, inl, inr, Bool, true, false, cond, nat_eq, List, [], ◌∷◌, ◌++◌, count_by, Option, Some, None, Ok, Err, Result, refl, ap, sym, subst, ◌∙◌, append_assoc, arith}
-use Rattle.std.proofs.lemmas.Bool.{eqb-true}
+use Rattle.std.proofs.Common.{◌≡◌, ℕ, zero, suc, ◌+◌, ◌<◌, ◌≤◌, ◌⊎◌, inl, inr, Bool, true, false, cond, nat_eq, nat_lt, List, [], ◌∷◌, ◌++◌, count_by, length, Option, Some, None, Ok, Err, Result, refl, ap, sym, subst, ◌∙◌, append_assoc, arith}
+use Rattle.std.proofs.lemmas.Bool.{and_parts, eqb-true, ltb-true}
+use Rattle.std.proofs.lemmas.List.{append-nil}
 use Rattle.std.proofs.lemmas.List.Sums.{sum_by-cons}
-use Rattle.std.specs.List.{AllByRecursion}
+use Rattle.std.specs.List.{AllByRecursion, list_all}
+use Rattle.std.proofs.lemmas.List.Elements.{All-from_recursion}
 use Rattle.std.specs.Result.{IsErr, IsErrAnd}
-use Rattle.gd_item.specs.Answers.{answer_of, answer_unless, reply_to, refused, delta_reply}
+use Rattle.gd_item.specs.Answers.{answer_of, answer_unless, shown, reply_to, refused, delta_reply}
 use Rattle.gd_item.specs.Pages.{Asked, Past, Latest, Bad, Lost, asked, is_bad}
-use Rattle.gd_item.specs.Refused.{Refusal, refuse}
+use Rattle.gd_item.specs.Refused.{Refusal, refuse, refusal}
+use Rattle.gd_item.specs.Replies.{has_status}
 use Rattle.gd_item.specs.Sessions.{State}
 use Rattle.gd_item.specs.Steps.{after_request, state_of}
+use Rattle.gd_item.specs.Written.{IsWritten, is_token_byte}
 use Rattle.gd_item.specs.declared.fault.ErrorCode.{ErrorCode}
 use Rattle.gd_item.specs.declared.fault.ErrorCode.TheVariants.{InvalidRequest}
 use Rattle.gd_item.specs.declared.reply.Page.{Page}
@@ -19,14 +23,15 @@ use Rattle.gd_item.specs.declared.request.Request.TheVariants.{Delta}
 use Rattle.gd_item.specs.declared.step.Step.{Step}
 use Rattle.gd_item.specs.declared.step.Step.TheVariants.{Ask, Event}
 use Rattle.gd_item.specs.declared.step.Who.TheVariants.{Own, Other}
-use Rattle.od_transfer.specs.Asking.{Asks, IsSuch, Never, ByOthers, OwnAre, Heard, given, has_status, may_answer, is_last_link}
+use Rattle.od_transfer.specs.Asking.{Abandoned, Asks, IsSuch, Never, ByOthers, OwnAre, Heard, StandsLast, given, may_answer, is_last_link}
 use Rattle.od_transfer.specs.declared.remote.AskFault.{AskFault}
+use Rattle.od_transfer.specs.declared.remote.AskFault.TheVariants as ask
 use Rattle.od_sync.specs.declared.delta.DeltaFault.{DeltaFault}
 use Rattle.od_sync.specs.declared.delta.DeltaFault.TheVariants.{LinkFault, Unserved, Memory}
 use Rattle.od_transfer.proofs.Logs.{such-others, such-also, such-append}
-use Rattle.od_sync.specs.Deltas.{AskedDelta, AsksDelta, IsAskedWith, is_delta, is_own_delta, is_answered_delta, DeltaAsks, page_in, last_heard_after, heard_step, IsSpent, Spent, SpentThrice, PageHeard, EndsUnserved, SendsOnce, Sent, is_last_page}
-use Rattle.od_sync.proofs.Chained.{chain-page, chain-spent, last-token}
-use Rattle.od_sync.proofs.Compared.{both}
+use Rattle.od_sync.specs.Chains.{Chained}
+use Rattle.od_sync.specs.Deltas.{AskedDelta, AsksDelta, IsAskedWith, is_delta, is_own_delta, is_answered_delta, is_written_token, DeltaAsks, page_in, last_heard_after, heard_step, IsSpent, Spent, Untaken, PageHeard, EndsUnserved, SendsOnce, Sent, is_last_page}
+use Rattle.od_sync.proofs.Chained.{chained-all, chain-lost, chain-page, chain-spent, last-token}
 use Rattle.od_sync.proofs.Growth.{count-append}
 
 -- ---- what a drive answers that is asked for changes
@@ -44,10 +49,12 @@ never-unserved state size code Latest is = cc is
 never-unserved state size code Bad is = grind (arith, is)
 never-unserved state size code (Lost resync) is = cc is
 
-pub served-delta : (log : List Step) (size : ℕ) (token : Option (List ℕ)) (code : ErrorCode) → reply.Refused 503 code ≡ answer_of log size (Delta token) → ⊥
-served-delta log size token code is =
-    never-unserved (state_of log) size code (asked (state_of log) token)
-    (is ∙ unless-cond (is_bad (asked (state_of log) token)) (refuse 400 InvalidRequest) (state_of log) size (Delta token))
+served-delta : (log : List Step) (size : ℕ) (token : Option (List ℕ)) (code : ErrorCode) → (state_of log).plain ≡ false → reply.Refused 503 code ≡ answer_of log size (Delta token) → ⊥
+served-delta log size token code plain is =
+    let state : State = state_of log in
+    never-unserved state size code (asked state token)
+    (is ∙ ap (λ b. shown b (answer_unless (refusal state (Delta token)) state size (Delta token))) plain
+    ∙ unless-cond (is_bad (asked state token)) (refuse 400 InvalidRequest) state size (Delta token))
 
 -- ---- the last request that was heard
 pub last-append : (before : Option Step) (steps more : List Step) → last_heard_after before (steps ++ more) ≡ last_heard_after (last_heard_after before steps) more
@@ -92,7 +99,7 @@ others-sent : (steps : List Step) (most : ℕ) → ByOthers steps → count_by i
 others-sent steps most by = omega (arith, none-counted (IsSuch Never) is_own_delta others-unsent steps by)
 
 -- what had no page was not answered
-spent-step : (request : Request) (step : Step) → IsSuch (IsSpent request) step → is_answered_delta step ≡ false
+pub spent-step : (request : Request) (step : Step) → IsSuch (IsSpent request) step → is_answered_delta step ≡ false
 spent-step request (Ask Own sent true true) spent = absurd (cc (spent.1 refl))
 spent-step request (Ask Own sent true false) spent = refl
 spent-step request (Ask Own sent false heard) spent = refl
@@ -102,12 +109,39 @@ spent-step request (Event event) spent = refl
 spent-unanswered : (request : Request) (steps : List Step) (most : ℕ) → OwnAre (IsSpent request) steps → count_by is_answered_delta steps ≤ most
 spent-unanswered request steps most such = omega (arith, none-counted (IsSuch (IsSpent request)) is_answered_delta (spent-step request) steps such)
 
+-- ---- a request that has a written form comes as itself
+record HeardAs (request : Request) (old : List Step) (after : Option (List Step)) (r : Reply) : Type 0 where
+  part : List Step
+  such : ByOthers part
+  served : Bool
+  size : ℕ
+  plain : (state_of (old ++ part)).plain ≡ false
+  grown : after ≡ Some ((old ++ part) ++ Ask Own request served true ∷ [])
+  reply_is : r ≡ given served (old ++ part) size request
+
+heard-as : (request : Request) (r : Reply) (old : List Step) (after : Option (List Step)) → IsWritten request → Heard ByOthers request old after r → HeardAs request old after r
+heard-as request r old after written h =
+    let same : h.sent ≡ request = h.answers.sent_as written in
+    record {
+      part = h.part;
+      such = h.such;
+      served = h.served;
+      size = h.answers.size;
+      plain = h.answers.not_plain;
+      grown = h.grown ∙ ap (λ sent. Some ((old ++ h.part) ++ Ask Own sent h.served true ∷ [])) same;
+      reply_is = h.answers.reply_is ∙ ap (λ sent. given h.served (old ++ h.part) h.answers.size sent) same;
+    }
+
+stands-as : (request : Request) (heard : Bool) (log : List Step) (after : Option (List Step)) → IsWritten request → StandsLast request heard log after
+    → (served : Bool) × (after ≡ Some (log ++ Ask Own request served heard ∷ []))
+stands-as request heard log after written last = (last.served, last.grown ∙ ap (λ sent. Some (log ++ Ask Own sent last.served heard ∷ [])) (last.sent_as written))
+
 -- ---- one send
-heard-page : (request : Request) (page : Page) (old part : List Step) (after : Option (List Step)) (size : ℕ) (served : Bool) → ByOthers part
+heard-page : (request : Request) (page : Page) (old part : List Step) (after : Option (List Step)) (size : ℕ) (served : Bool) → ByOthers part → (state_of (old ++ part)).plain ≡ false
     → after ≡ Some ((old ++ part) ++ Ask Own request served true ∷ []) → reply.Page page ≡ given served (old ++ part) size request → PageHeard 0 request old after page
-heard-page request page old part after size true by grown is =
-    record { part = part; such = such-others (IsSpent request) part by; sent = others-sent part 0 by; size = size; grown = grown; page_is = is }
-heard-page request page old part after size false by grown is = absurd (cc is)
+heard-page request page old part after size true by plain grown is =
+    record { part = part; such = such-others (IsSpent request) part by; sent = others-sent part 0 by; size = size; grown = grown; plain = plain; page_is = is }
+heard-page request page old part after size false by plain grown is = absurd (cc is)
 
 page-of : (request : Request) (r : Reply) (page : Page) → is_delta request ≡ true → may_answer request r ≡ true → page_in r ≡ Some (Some page) → (r ≡ reply.Page page) × (is_last_link page.link ≡ true)
 page-of (Delta token) (reply.Page first) page is may in_reply =
@@ -117,21 +151,23 @@ page-of (Delta token) (reply.Refused status code) page is may in_reply = absurd 
 page-of (Delta token) r page is may in_reply = absurd (cc may)
 page-of request r page is may in_reply = absurd (cc is)
 
-pub sent-page : (request : Request) (r : Reply) (page : Page) (before after : Option (List Step)) {E : Type 0} → is_delta request ≡ true → may_answer request r ≡ true → page_in r ≡ Some (Some page)
+pub sent-page : (request : Request) (r : Reply) (page : Page) (before after : Option (List Step)) {E : Type 0} → is_delta request ≡ true → IsWritten request → may_answer request r ≡ true → page_in r ≡ Some (Some page)
     → Asks request before after (Ok r) → SendsOnce request before after {E = E} (Ok (Ok page))
-sent-page request r page before after is may in_reply asks =
+sent-page request r page before after is written may in_reply asks =
     let paged = page-of request r page is may in_reply in
     record {
       last_page = paged.1;
-      ok = λ old told. let h = asks.ok old told in heard-page request page old h.part after h.size h.served h.such h.grown (sym paged.0 ∙ h.reply_is);
+      ok = λ old told.
+          let h = heard-as request r old after written (asks.ok old told) in
+          heard-page request page old h.part after h.size h.served h.such h.plain h.grown (sym paged.0 ∙ h.reply_is);
       err = tt;
     }
 
-spent-served : (token : Option (List ℕ)) (status : ℕ) (code : ErrorCode) (old part : List Step) (after : Option (List Step)) (size : ℕ) (served : Bool) → status ≡ 503 → ByOthers part
+spent-served : (token : Option (List ℕ)) (status : ℕ) (code : ErrorCode) (old part : List Step) (after : Option (List Step)) (size : ℕ) (served : Bool) → status ≡ 503 → ByOthers part → (state_of (old ++ part)).plain ≡ false
     → after ≡ Some ((old ++ part) ++ Ask Own (Delta token) served true ∷ []) → reply.Refused status code ≡ given served (old ++ part) size (Delta token) → Spent (Delta token) 1 1 old after
-spent-served token status code old part after size true number by grown is =
-    absurd (served-delta (old ++ part) size token code (ap (λ n. reply.Refused n code) (sym number) ∙ is))
-spent-served token status code old part after size false number by grown is = record {
+spent-served token status code old part after size true number by plain grown is =
+    absurd (served-delta (old ++ part) size token code plain (ap (λ n. reply.Refused n code) (sym number) ∙ is))
+spent-served token status code old part after size false number by plain grown is = record {
   part = part ++ Ask Own (Delta token) false true ∷ [];
   such = such-append (IsSpent (Delta token)) part (Ask Own (Delta token) false true ∷ []) (such-others (IsSpent (Delta token)) part by) ((refl, λ _. refl), tt);
   sent = one-more is_own_delta part (Ask Own (Delta token) false true) 0 (others-sent part 0 by);
@@ -140,38 +176,78 @@ spent-served token status code old part after size false number by grown is = re
   none = λ is before. absurd (omega (arith, is));
 }
 
-spent-reply : (request : Request) (r : Reply) (old : List Step) (after : Option (List Step)) → is_delta request ≡ true → may_answer request r ≡ true → page_in r ≡ Some None → Heard Never request old after r → Spent request 1 1 old after
+spent-reply : (request : Request) (r : Reply) (old : List Step) (after : Option (List Step)) → is_delta request ≡ true → may_answer request r ≡ true → page_in r ≡ Some None → HeardAs request old after r → Spent request 1 1 old after
 spent-reply (Delta token) (reply.Refused status code) old after is may in_reply h =
-    spent-served token status code old h.part after h.size h.served (eqb-true status 503 (both (nat_eq status 503) (has_status code status) may).0) h.such h.grown h.reply_is
+    spent-served token status code old h.part after h.size h.served (eqb-true status 503 (and_parts (nat_eq status 503) (has_status code status) may).0) h.such h.plain h.grown h.reply_is
 spent-reply (Delta token) (reply.Page page) old after is may in_reply h = absurd (cc in_reply)
 spent-reply (Delta token) r old after is may in_reply h = absurd (cc may)
 spent-reply request r old after is may in_reply h = absurd (cc is)
 
-pub sent-unserved : (request : Request) (r : Reply) (before after : Option (List Step)) {E : Type 0} → is_delta request ≡ true → may_answer request r ≡ true → page_in r ≡ Some None
+pub sent-unserved : (request : Request) (r : Reply) (before after : Option (List Step)) {E : Type 0} → is_delta request ≡ true → IsWritten request → may_answer request r ≡ true → page_in r ≡ Some None
     → Asks request before after (Ok r) → SendsOnce request before after {E = E} (Ok (Err 1))
-sent-unserved request r before after is may in_reply asks =
-    record { last_page = omega arith; ok = λ old told. spent-reply request r old after is may in_reply (asks.ok old told); err = tt }
+sent-unserved request r before after is written may in_reply asks =
+    record { last_page = omega arith; ok = λ old told. spent-reply request r old after is may in_reply (heard-as request r old after written (asks.ok old told)); err = tt }
 
-spent-unheard : (request : Request) (old others : List Step) (after : Option (List Step)) → ByOthers others
-    → (after ≡ Some (old ++ others)) ⊎ ((served : Bool) × (after ≡ Some ((old ++ others) ++ Ask Own request served false ∷ []))) → Spent request 1 0 old after
-spent-unheard request old others after by (inl not_there) =
+spent-unheard : (request : Request) (old others : List Step) (after : Option (List Step)) → IsWritten request → ByOthers others
+    → (after ≡ Some (old ++ others)) ⊎ StandsLast request false (old ++ others) after → Spent request 1 0 old after
+spent-unheard request old others after written by (inl not_there) =
     record { part = others; such = such-others (IsSpent request) others by; sent = others-sent others 1 by; grown = not_there; last = λ some before. absurd (omega (arith, some)); none = λ is before. others-last before others by }
-spent-unheard request old others after by (inr there) = record {
-  part = others ++ Ask Own request there.0 false ∷ [];
-  such = such-append (IsSpent request) others (Ask Own request there.0 false ∷ []) (such-others (IsSpent request) others by) ((refl, λ is. absurd (cc is)), tt);
-  sent = one-more is_own_delta others (Ask Own request there.0 false) 0 (others-sent others 0 by);
-  grown = there.1 ∙ ap (λ log. Some log) (append_assoc old others (Ask Own request there.0 false ∷ []));
-  last = λ some before. absurd (omega (arith, some));
-  none = λ is before. last-append before others (Ask Own request there.0 false ∷ []) ∙ others-last before others by;
+spent-unheard request old others after written by (inr last) =
+    let there = stands-as request false (old ++ others) after written last in
+    record {
+      part = others ++ Ask Own request there.0 false ∷ [];
+      such = such-append (IsSpent request) others (Ask Own request there.0 false ∷ []) (such-others (IsSpent request) others by) ((refl, λ is. absurd (cc is)), tt);
+      sent = one-more is_own_delta others (Ask Own request there.0 false) 0 (others-sent others 0 by);
+      grown = there.1 ∙ ap (λ log. Some log) (append_assoc old others (Ask Own request there.0 false ∷ []));
+      last = λ some before. absurd (omega (arith, some));
+      none = λ is before. last-append before others (Ask Own request there.0 false ∷ []) ∙ others-last before others by;
+    }
+
+pub sent-unheard : (request : Request) (fault : AskFault) (before after : Option (List Step)) {E : Type 0} → IsWritten request → fault ≡ ask.Failed → Asks request before after (Err fault) → SendsOnce request before after {E = E} (Ok (Err 0))
+sent-unheard request fault before after written is asks =
+    record { last_page = omega arith; ok = λ old told. let u = asks.failed is old told in spent-unheard request old u.others after written u.by_others u.grown; err = tt }
+
+-- one that was given up where memory ran out
+untaken-none : (request : Request) (sends : ℕ) (old part : List Step) (after : Option (List Step)) → OwnAre (IsSpent request) part → count_by is_own_delta part ≤ sends → after ≡ Some (old ++ part) → Untaken request sends old after
+untaken-none request sends old part after such sent grown = record {
+  part = part;
+  such = such;
+  lost = [];
+  lost_is = inl refl;
+  sent = omega (arith, count-append is_own_delta part [], sent);
+  grown = grown ∙ ap (λ steps. Some (old ++ steps)) (sym (append-nil part));
 }
 
-pub sent-unheard : (request : Request) (fault : AskFault) (before after : Option (List Step)) {E : Type 0} → Asks request before after (Err fault) → SendsOnce request before after {E = E} (Ok (Err 0))
-sent-unheard request fault before after asks =
-    record { last_page = omega arith; ok = λ old told. let u = asks.err old told in spent-unheard request old u.others after u.by_others u.grown; err = tt }
+spent-one : (request : Request) (old part : List Step) (after : Option (List Step)) (served heard : Bool) → ByOthers part → (heard ≡ true → served ≡ false)
+    → after ≡ Some ((old ++ part) ++ Ask Own request served heard ∷ []) → Untaken request 1 old after
+spent-one request old part after served heard by spent grown =
+    untaken-none request 1 old (part ++ Ask Own request served heard ∷ []) after
+    (such-append (IsSpent request) part (Ask Own request served heard ∷ []) (such-others (IsSpent request) part by) ((refl, spent), tt))
+    (one-more is_own_delta part (Ask Own request served heard) 0 (others-sent part 0 by))
+    (grown ∙ ap (λ log. Some log) (append_assoc old part (Ask Own request served heard ∷ [])))
 
-pub sent-stopped : (request : Request) (fault : AskFault) (before after : Option (List Step)) {E : Type 0} (e : E) → Asks request before after (Err fault) → SendsOnce request before after (Err e)
-sent-stopped request fault before after e asks =
-    record { last_page = tt; ok = tt; err = λ old told. let u = asks.err old told in spent-unheard request old u.others after u.by_others u.grown }
+untaken-one : (request : Request) (old part : List Step) (after : Option (List Step)) (served heard : Bool) → ByOthers part
+    → after ≡ Some ((old ++ part) ++ Ask Own request served heard ∷ []) → Untaken request 1 old after
+untaken-one request old part after true true by grown = record {
+  part = part;
+  such = such-others (IsSpent request) part by;
+  lost = Ask Own request true true ∷ [];
+  lost_is = inr refl;
+  sent = one-more is_own_delta part (Ask Own request true true) 0 (others-sent part 0 by);
+  grown = grown ∙ ap (λ log. Some log) (append_assoc old part (Ask Own request true true ∷ []));
+}
+untaken-one request old part after true false by grown = spent-one request old part after true false by (λ is. absurd (cc is)) grown
+untaken-one request old part after false heard by grown = spent-one request old part after false heard by (λ _. refl) grown
+
+untaken-given-up : (request : Request) (old part : List Step) (after : Option (List Step)) → IsWritten request → ByOthers part
+    → (after ≡ Some (old ++ part)) ⊎ ((heard : Bool) × StandsLast request heard (old ++ part) after) → Untaken request 1 old after
+untaken-given-up request old part after written by (inl not_there) = untaken-none request 1 old part after (such-others (IsSpent request) part by) (others-sent part 1 by) not_there
+untaken-given-up request old part after written by (inr last) =
+    let there = stands-as request last.0 (old ++ part) after written last.1 in untaken-one request old part after there.0 last.0 by there.1
+
+pub sent-stopped : (request : Request) (fault : AskFault) (before after : Option (List Step)) {E : Type 0} (e : E) → IsWritten request → fault ≡ ask.Memory → Asks request before after (Err fault) → SendsOnce request before after (Err e)
+sent-stopped request fault before after e written is asks =
+    record { last_page = tt; ok = tt; err = λ old told. let given_up = asks.memory is old told in untaken-given-up request old given_up.part after written given_up.such given_up.grown }
 
 -- ---- one send after others
 last-of-both : (request : Request) (a b : ℕ) (first second : List Step) → (0 < a → (before : Option Step) → last_heard_after before first ≡ Some (Ask Own request false true))
@@ -209,11 +285,27 @@ page-more request n a page old middle after few first later =
       sent = omega (arith, few, first.sent, second.sent, count-append is_own_delta first.part second.part);
       size = second.size;
       grown = second.grown ∙ ap (λ log. Some (log ++ Ask Own request true true ∷ [])) (append_assoc old first.part second.part);
+      plain = subst (λ (log : List Step). (state_of log).plain ≡ false) (append_assoc old first.part second.part) second.plain;
       page_is = second.page_is ∙ ap (λ log. answer_of log second.size request) (append_assoc old first.part second.part);
     }
 
-spent-thrice : (request : Request) (n a : ℕ) (old : List Step) (after : Option (List Step)) → n ≤ 3 → Spent request n a old after → SpentThrice request old after
-spent-thrice request n a old after few s = record { part = s.part; such = s.such; sent = omega (arith, s.sent, few); grown = s.grown }
+spent-thrice : (request : Request) (n a : ℕ) (old : List Step) (after : Option (List Step)) → n ≤ 3 → Spent request n a old after → Untaken request 3 old after
+spent-thrice request n a old after few s = untaken-none request 3 old s.part after s.such (omega (arith, s.sent, few)) s.grown
+
+untaken-more : (request : Request) (n a : ℕ) (old : List Step) (middle after : Option (List Step)) → n < 3 → Spent request n a old middle
+    → ((now : List Step) → middle ≡ Some now → Untaken request 1 now after) → Untaken request 3 old after
+untaken-more request n a old middle after few first later =
+    let second = later (old ++ first.part) first.grown in
+    record {
+      part = first.part ++ second.part;
+      such = such-append (IsSpent request) first.part second.part first.such second.such;
+      lost = second.lost;
+      lost_is = second.lost_is;
+      sent = omega (arith, few, first.sent, second.sent, count-append is_own_delta (first.part ++ second.part) second.lost, count-append is_own_delta first.part second.part, count-append is_own_delta second.part second.lost);
+      grown = second.grown
+          ∙ ap (λ log. Some log) (append_assoc old first.part (second.part ++ second.lost))
+          ∙ ap (λ steps. Some (old ++ steps)) (sym (append_assoc first.part second.part second.lost));
+    }
 
 pub spent-asks : (request : Request) (n a : ℕ) (old : List Step) (after : Option (List Step)) → 0 < a → Spent request n a old after → EndsUnserved request old after
 spent-asks request n a old after some s = record { part = s.part; grown = s.grown; last = s.last some }
@@ -243,7 +335,7 @@ asks-stopped request n a result before middle after e few memory first once = su
   last_page = tt;
   ok = tt;
   unserved = λ is. absurd (cc is);
-  err = λ old told. spent-thrice request (n + 1) (a + 0) old after (omega (arith, few)) (spent-more request n 1 a 0 old middle after (first old told) (λ now is. once.err now is));
+  err = λ old told. untaken-more request n a old middle after few (first old told) (λ now is. once.err now is);
 })
 
 pub asks-failed : (request : Request) (n a : ℕ) (before after : Option (List Step)) → n ≤ 3 → ((old : List Step) → before ≡ Some old → Spent request n a old after) → DeltaAsks request before after (Err LinkFault)
@@ -262,6 +354,26 @@ asks-unserved request n a before after few some all = record {
   err = λ old told. spent-thrice request n a old after few (all old told);
 }
 
+-- a token that a request can carry
+each-true : (test : ℕ → Bool) (xs : List ℕ) → list_all test xs ≡ true → AllByRecursion (λ (x : ℕ). test x ≡ true) xs
+each-true test [] is = tt
+each-true test (x ∷ xs) is = let parts = and_parts (test x) (list_all test xs) is in (parts.0, each-true test xs parts.1)
+
+pub token-written : (token : Option (List ℕ)) → is_written_token token ≡ true → IsWritten (Delta token)
+token-written None is = tt
+token-written (Some text) is =
+    let parts = and_parts (nat_lt 0 (length text)) (list_all is_token_byte text) is in
+    (ltb-true 0 (length text) parts.0, All-from_recursion (λ (b : ℕ). is_token_byte b ≡ true) text (each-true is_token_byte text parts.1))
+
+-- one that it cannot: nothing is asked
+pub asks-nothing : (request : Request) (log : Option (List Step)) → DeltaAsks request log log (Err Memory)
+asks-nothing request log = record {
+  last_page = tt;
+  ok = tt;
+  unserved = λ is. absurd (cc is);
+  err = λ old told. untaken-none request 3 old [] log tt (omega arith) (told ∙ ap (λ steps. Some steps) (sym (append-nil old)));
+}
+
 -- whatever the end, the requests were for these changes
 asked-with : (token : Option (List ℕ)) (sent : Request) (served heard : Bool) → IsSpent (Delta token) sent served heard → IsAskedWith token sent served heard
 asked-with token sent served heard spent = spent.0
@@ -272,20 +384,40 @@ page-asked token old after page is_last h = record {
   such = such-append (IsAskedWith token) h.part (Ask Own (Delta token) true true ∷ []) (such-also (IsSpent (Delta token)) (IsAskedWith token) (asked-with token) h.part h.such) (refl, tt);
   sent = one-more is_own_delta h.part (Ask Own (Delta token) true true) 2 h.sent;
   answered = one-more is_answered_delta h.part (Ask Own (Delta token) true true) 0 (spent-unanswered (Delta token) h.part 0 h.such);
-  chained = let text = last-token page.link is_last in (Some text.0, chain-page token old h.part h.size page text.0 h.such h.page_is text.1);
+  chained = let text = last-token page.link is_last in
+      chained-all token (Some text.0) old (h.part ++ Ask Own (Delta token) true true ∷ []) (chain-page token old h.part h.size page text.0 h.such h.page_is text.1);
   grown = h.grown ∙ ap (λ log. Some log) (append_assoc old h.part (Ask Own (Delta token) true true ∷ []));
 }
 
-spent-asked : (token : Option (List ℕ)) (old : List Step) (after : Option (List Step)) → SpentThrice (Delta token) old after → AskedDelta token old after
-spent-asked token old after s = record {
-  part = s.part;
-  such = such-also (IsSpent (Delta token)) (IsAskedWith token) (asked-with token) s.part s.such;
-  sent = s.sent;
-  answered = spent-unanswered (Delta token) s.part 1 s.such;
-  chained = (token, chain-spent token old s.part s.such);
-  grown = s.grown;
+-- what was not taken was asked for too
+abbrev IsLost : Option (List ℕ) → List Step → Type 0
+IsLost token lost = (lost ≡ []) ⊎ (lost ≡ Ask Own (Delta token) true true ∷ [])
+
+lost-asked : (token : Option (List ℕ)) (lost : List Step) → IsLost token lost → OwnAre (IsAskedWith token) lost
+lost-asked token lost (inl is) = subst (OwnAre (IsAskedWith token)) (sym is) tt
+lost-asked token lost (inr is) = subst (OwnAre (IsAskedWith token)) (sym is) (refl, tt)
+
+lost-answered : (token : Option (List ℕ)) (lost : List Step) → IsLost token lost → count_by is_answered_delta lost ≤ 1
+lost-answered token lost (inl is) = subst (λ (steps : List Step). count_by is_answered_delta steps ≤ 1) (sym is) (omega arith)
+lost-answered token lost (inr is) =
+    subst (λ (steps : List Step). count_by is_answered_delta steps ≤ 1) (sym is) (one-more is_answered_delta [] (Ask Own (Delta token) true true) 0 (omega arith))
+
+lost-chained : (token : Option (List ℕ)) (drive spent lost : List Step) → OwnAre (IsSpent (Delta token)) spent → IsLost token lost → Chained token drive (spent ++ lost)
+lost-chained token drive spent lost such (inl is) =
+    subst (λ (steps : List Step). Chained token drive (spent ++ steps)) (sym is)
+    (subst (λ (steps : List Step). Chained token drive steps) (sym (append-nil spent)) (chained-all token token drive spent (chain-spent token drive spent such)))
+lost-chained token drive spent lost such (inr is) = subst (λ (steps : List Step). Chained token drive (spent ++ steps)) (sym is) (chain-lost token drive spent such)
+
+untaken-asked : (token : Option (List ℕ)) (old : List Step) (after : Option (List Step)) → Untaken (Delta token) 3 old after → AskedDelta token old after
+untaken-asked token old after u = record {
+  part = u.part ++ u.lost;
+  such = such-append (IsAskedWith token) u.part u.lost (such-also (IsSpent (Delta token)) (IsAskedWith token) (asked-with token) u.part u.such) (lost-asked token u.lost u.lost_is);
+  sent = u.sent;
+  answered = both-counted is_answered_delta u.part u.lost 0 1 (spent-unanswered (Delta token) u.part 0 u.such) (lost-answered token u.lost u.lost_is);
+  chained = lost-chained token old u.part u.lost u.such u.lost_is;
+  grown = u.grown;
 }
 
 pub delta-asks : (token : Option (List ℕ)) (result : Result Page DeltaFault) (before after : Option (List Step)) → DeltaAsks (Delta token) before after result → AsksDelta token before after
 delta-asks token (Ok page) before after asks = record { told = λ old told. page-asked token old after page asks.last_page (asks.ok old told) }
-delta-asks token (Err fault) before after asks = record { told = λ old told. spent-asked token old after (asks.err old told) }
+delta-asks token (Err fault) before after asks = record { told = λ old told. untaken-asked token old after (asks.err old told) }

@@ -21,7 +21,8 @@ use Rattle.od_sync.specs.Syncs.{HasServable}
 use Rattle.od_sync.specs.declared.looking.Sides.{Sides}
 use Rattle.od_sync.specs.declared.receiving.Received.{Received}
 use Rattle.od_sync.proofs.OwnRequests.{own_requests_keep}
-use Rattle.od_sync.proofs.Growth.{answered, asked-answered, asked-transfers, asked-with, each-first, each-second, last-push, none-more, same-log, same-more}
+use Rattle.od_sync.proofs.Growth.{answered, asked-answered, asked-transfers, asked-with, each-first, each-second, none-more, same-log, same-more}
+use Rattle.od_keeper.proofs.LastImages.{last_added}
 
 abbrev pub is-served : Step → Type 0
 is-served step = is_own_served step ≡ true
@@ -72,7 +73,7 @@ serves-kept image received before after images_before images_between images_afte
   told = λ drive images told images_told last.
       let g = receives.told drive images told images_told last in
       served-next image received.image received drive images (received.image ∷ []) after images_between images_after g (stay (images ++ received.image ∷ []) g.images_grown)
-      (last-push images received.image) refl;
+      (last_added images received.image) refl;
 }
 
 pub serves-agreed : {E : Type 0} (image : Image) (received : Received) (sides : Sides) (before after : Option (List Step)) (images_before images_between images_after : Option (List Image))
@@ -81,10 +82,10 @@ pub serves-agreed : {E : Type 0} (image : Image) (received : Received) (sides : 
 serves-agreed image received sides before after images_before images_between images_after receives keeps token = record {
   told = λ drive images told images_told last.
       let g = receives.told drive images told images_told last in
-      let grown = keeps.ok.told (images ++ received.image ∷ []) g.images_grown (last-push images received.image) in
+      let grown = keeps.ok.told (images ++ received.image ∷ []) g.images_grown (last_added images received.image) in
       served-next image sides.image received drive images (received.image ∷ sides.image ∷ []) after images_between images_after g
       (grown ∙ ap (λ is. Some is) (append_assoc images (received.image ∷ []) (sides.image ∷ [])))
-      (ap last_image (sym (append_assoc images (received.image ∷ []) (sides.image ∷ []))) ∙ last-push (images ++ received.image ∷ []) sides.image) token;
+      (ap last_image (sym (append_assoc images (received.image ∷ []) (sides.image ∷ []))) ∙ last_added (images ++ received.image ∷ []) sides.image) token;
 }
 
 -- the image that is last
@@ -93,8 +94,8 @@ pub leaves-agreed : {E : Type 0} (image : Image) (received : Received) (sides : 
 leaves-agreed image received sides images_before images_between images_after adds keeps = record {
   told = λ images told last. record {
     now = (images ++ received.image ∷ []) ++ sides.image ∷ [];
-    grown = keeps.ok.told (images ++ received.image ∷ []) (adds.told images told last) (last-push images received.image);
-    last = last-push (images ++ received.image ∷ []) sides.image;
+    grown = keeps.ok.told (images ++ received.image ∷ []) (adds.told images told last) (last_added images received.image);
+    last = last_added (images ++ received.image ∷ []) sides.image;
   };
 }
 

@@ -35,7 +35,7 @@ use Rattle.od_sync.specs.declared.ends.SyncEnd.TheVariants as end
 use Rattle.od_sync.specs.declared.ends.SyncStop.{SyncStop}
 use Rattle.od_sync.specs.declared.ends.SyncStop.TheVariants as stop
 use Rattle.od_sync.proofs.Growth.{same-more}
-use Rattle.od_sync.proofs.CountsRose.{rose-some}
+use Rattle.od_transfer.proofs.CountsRose.{rose-some}
 
 -- ---- nothing is discarded
 discards-none : (step : LocalStep) → IsSyncStep step → is_discard step ≡ false

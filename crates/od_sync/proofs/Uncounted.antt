@@ -15,9 +15,11 @@ use Rattle.od_sync.specs.declared.scanning.Node.TheVariants.{Folder, File}
 same-kind : (found : Found) (kind : Kind) → is_same_node found (uncounted_kind kind) ≡ is_same_node found kind
 same-kind Folder (kinds.Folder child_count) = refl
 same-kind Folder (kinds.File digest) = refl
+same-kind Folder kinds.Bare = refl
 same-kind Folder kinds.Deleted = refl
 same-kind (File digest) (kinds.Folder child_count) = refl
 same-kind (File digest) (kinds.File other) = refl
+same-kind (File digest) kinds.Bare = refl
 same-kind (File digest) kinds.Deleted = refl
 
 same-entries : (found : List (List (List ℕ) × Found)) (entries : List (List (List ℕ) × Item)) → is_same found (mapped uncounted entries) ≡ is_same found entries

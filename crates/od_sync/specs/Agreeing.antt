@@ -24,11 +24,13 @@ entry_on entries path = option_map (λ entry. entry.1) (find (λ entry. is_path 
 abbrev pub agreed_file : Digest → Kind → Option Agreed
 agreed_file digest (kind.Folder child_count) = None
 agreed_file digest (kind.File other) = cond (is_digest digest other) (Some (agreed.File digest)) None
+agreed_file digest kind.Bare = None
 agreed_file digest kind.Deleted = None
 
 abbrev pub agreed_folder : Kind → Option Agreed
 agreed_folder (kind.Folder child_count) = Some agreed.Folder
 agreed_folder (kind.File digest) = None
+agreed_folder kind.Bare = None
 agreed_folder kind.Deleted = None
 
 abbrev pub agreed_node : Node → Kind → Option Agreed

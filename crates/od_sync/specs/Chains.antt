@@ -1,5 +1,5 @@
 -- With which token the drive is asked for changes: with that of the image that was loaded, and then with that of the last answer.
-use Rattle.std.specs.Prelude.{◌≡◌, ℕ, true, false, List, [], ◌∷◌, ◌++◌, Option, Some}
+use Rattle.std.specs.Prelude.{◌≡◌, ◌⊎◌, ℕ, true, false, List, [], ◌∷◌, ◌++◌, Option, Some}
 use Rattle.gd_item.specs.Answers.{answer_of}
 use Rattle.gd_item.specs.declared.reply.PageLink.TheVariants as link
 use Rattle.gd_item.specs.declared.reply.Reply.{Reply}
@@ -22,10 +22,14 @@ AsksWith token drive (Ask Own (Delta sent) true false) next = (sent ≡ token) �
 AsksWith token drive (Ask Own (Delta sent) false heard) next = (sent ≡ token) × (next ≡ token)
 AsksWith token drive step next = next ≡ token
 
--- step by step, to the last token; and to whichever that is
+-- step by step, to the last token
 abbrev pub IsChained : Option (List ℕ) → List Step → List Step → Option (List ℕ) → Type 0
 IsChained token drive [] last = token ≡ last
 IsChained token drive (step ∷ more) last = (next : Option (List ℕ)) × AsksWith token drive step next × IsChained next (drive ++ step ∷ []) more last
 
-abbrev pub Chained : Option (List ℕ) → List Step → List Step → Type 0
-Chained token drive more = (last : Option (List ℕ)) × IsChained token drive more last
+-- to whichever that is; where memory ran out, one more request may have been answered with it, whose answer was not taken
+pub record Chained (token : Option (List ℕ)) (drive more : List Step) : Type 0 where
+  pub last : Option (List ℕ)
+  pub taken : List Step
+  pub chained : IsChained token drive taken last
+  pub rest : (more ≡ taken) ⊎ (more ≡ taken ++ Ask Own (Delta last) true true ∷ [])

@@ -14,9 +14,11 @@ use Rattle.od_sync.specs.declared.scanning.Node.TheVariants.{Folder, File}
 abbrev pub is_same_node : Node → Kind → Bool
 is_same_node Folder (kind.Folder child_count) = true
 is_same_node Folder (kind.File digest) = false
+is_same_node Folder kind.Bare = false
 is_same_node Folder kind.Deleted = false
 is_same_node (File digest) (kind.Folder child_count) = false
 is_same_node (File digest) (kind.File other) = pointwise nat_eq digest.0 other.0
+is_same_node (File digest) kind.Bare = false
 is_same_node (File digest) kind.Deleted = false
 
 abbrev pub is_same_entry : List (List ℕ) × Node → List (List ℕ) × Item → Bool
@@ -41,4 +43,5 @@ scanned tree = map (λ (entry : List (List ℕ) × Option (List ℕ)). (entry.0,
 abbrev pub IsKindAccepted : List Version → Kind → Type 0
 IsKindAccepted versions (kind.Folder child_count) = Unit {0}
 IsKindAccepted versions (kind.File digest) = IsAccepted versions (agreed.File digest)
+IsKindAccepted versions kind.Bare = Unit {0}
 IsKindAccepted versions kind.Deleted = Unit {0}

@@ -1,7 +1,10 @@
 -- A request for changes is sent up to three times: again after a failure, and where the drive lacks memory.
-use Rattle.std.specs.Prelude.{◌≡◌, ℕ, ◌-◌, ◌<◌, ◌≤◌, Bool, true, false, List, [], ◌∷◌, ◌++◌, count_by, Option, Some, None, Result, Ok, Err, IfOk, OnOk, OnErr, IsErrOf}
+use Rattle.std.specs.Prelude.{◌≡◌, ◌⊎◌, ℕ, ◌-◌, ◌<◌, ◌≤◌, Bool, true, false, ◌&&◌, List, [], ◌∷◌, ◌++◌, count_by, length, nat_lt, Option, Some, None, Result, Ok, Err, IfOk, OnOk, OnErr, IsErrOf}
+use Rattle.std.specs.List.{list_all}
 use Rattle.gd_names.specs.Streams.{Rose}
 use Rattle.gd_item.specs.Answers.{answer_of}
+use Rattle.gd_item.specs.Steps.{state_of}
+use Rattle.gd_item.specs.Written.{is_token_byte}
 use Rattle.gd_item.specs.declared.reply.Page.{Page}
 use Rattle.gd_item.specs.declared.reply.Reply.{Reply}
 use Rattle.gd_item.specs.declared.reply.Reply.TheVariants as reply
@@ -19,6 +22,11 @@ use Rattle.od_sync.specs.declared.delta.DeltaFault.TheVariants.{LinkFault, Unser
 abbrev pub is_delta : Request → Bool
 is_delta (Delta token) = true
 is_delta request = false
+
+-- whether a request for changes can carry a token
+abbrev pub is_written_token : Option (List ℕ) → Bool
+is_written_token None = true
+is_written_token (Some text) = nat_lt 0 (length text) && list_all is_token_byte text
 
 -- whether a step is a request of this client for changes, and whether it was answered
 abbrev pub is_own_delta : Step → Bool
@@ -67,6 +75,7 @@ pub record PageHeard (sends : ℕ) (request : Request) (old : List Step) (after 
   pub sent : count_by is_own_delta part ≤ sends
   pub size : ℕ
   pub grown : after ≡ Some ((old ++ part) ++ Ask Own request true true ∷ [])
+  pub plain : (state_of (old ++ part)).plain ≡ false
   pub page_is : reply.Page page ≡ answer_of (old ++ part) size request
 
 -- the log where sends ended in no page because the drive lacked memory
@@ -75,18 +84,20 @@ pub record EndsUnserved (request : Request) (old : List Step) (after : Option (L
   pub grown : after ≡ Some (old ++ part)
   pub last : (before : Option Step) → last_heard_after before part ≡ Some (Ask Own request false true)
 
--- three such sends at most
-pub record SpentThrice (request : Request) (old : List Step) (after : Option (List Step)) : Type 0 where
+-- so many sends at most without a page that was taken: such sends, and then, where memory ran out, perhaps one that was answered
+pub record Untaken (request : Request) (sends : ℕ) (old : List Step) (after : Option (List Step)) : Type 0 where
   pub part : List Step
   pub such : OwnAre (IsSpent request) part
-  pub sent : count_by is_own_delta part ≤ 3
-  pub grown : after ≡ Some (old ++ part)
+  pub lost : List Step
+  pub lost_is : (lost ≡ []) ⊎ (lost ≡ Ask Own request true true ∷ [])
+  pub sent : count_by is_own_delta (part ++ lost) ≤ sends
+  pub grown : after ≡ Some (old ++ (part ++ lost))
 
 pub record DeltaAsks (request : Request) (before after : Option (List Step)) (result : Result Page DeltaFault) : Type 0 where
   pub last_page : IfOk result (λ page. is_last_link page.link ≡ true)
   pub ok : IfOk result (λ page. (old : List Step) → before ≡ Some old → PageHeard 2 request old after page)
   pub unserved : IsErrOf result Unserved → (old : List Step) → before ≡ Some old → EndsUnserved request old after
-  pub err : OnErr result ((old : List Step) → before ≡ Some old → SpentThrice request old after)
+  pub err : OnErr result ((old : List Step) → before ≡ Some old → Untaken request 3 old after)
 
 -- the counts never fall, and each end has its cause
 pub record HasDeltaCause (faults_before faults_now answers_before answers_now row_now : ℕ) (result : Result Page DeltaFault) : Type 0 where
@@ -110,7 +121,7 @@ is_last_page (Err replies) = replies ≤ 1
 pub record SendsOnce (request : Request) (before after : Option (List Step)) {E : Type 0} (result : Result (Result Page ℕ) E) : Type 0 where
   pub last_page : IfOk result is_last_page
   pub ok : IfOk result (λ sent. (old : List Step) → before ≡ Some old → Sent request old after sent)
-  pub err : OnErr result ((old : List Step) → before ≡ Some old → Spent request 1 0 old after)
+  pub err : OnErr result ((old : List Step) → before ≡ Some old → Untaken request 1 old after)
 
 -- so many sends without a page, with so many replies
 pub record HasNoPage (sends replies faults_before faults_now answers_before answers_now row_before row_now : ℕ) : Type 0 where

@@ -1,6 +1,6 @@
 -- What is done in the local folder: folders are made in their order, and files are placed that were fetched. What a folder
 -- could not be made for waits for the next round. Where no one disturbs it, all is done.
-use Rattle.std.specs.Prelude.{◌≡◌, ◌⊎◌, ℕ, ◌≤◌, Bool, true, false, not, ◌&&◌, List, [], ◌∷◌, ◌++◌, map, nat_le, Option, Some, None}
+use Rattle.std.specs.Prelude.{◌≡◌, ◌⊎◌, ℕ, ◌≤◌, Bool, true, false, not, ◌&&◌, List, [], ◌∷◌, ◌++◌, map, nat_le, nat_lt, Option, Some, None}
 use Rattle.std.specs.List.{All, AllByRecursion, AllZip, Contains, list_any}
 use Rattle.gd_item.specs.Inventory.{Inventory}
 use Rattle.gd_item.specs.Records.{digest_record}
@@ -133,9 +133,9 @@ pub record PlacesAll (batch : List Fetching) (outcomes : List Outcome) (before a
       → AllZip IsPathOf batch files → AllZip IsBytes outcomes files → CanPlace (local_of old).spots files
       → (local_of (old ++ part)).spots ≡ (local_of old).spots ++ map file_spot files
 
--- the fetches that are tried: not below what was not made, and not too large
+-- the fetches that are tried: not below what was not made, not too large, and of an item that can be asked for
 abbrev pub is_tried : List (List (List ℕ)) → Fetching → Bool
-is_tried barred fetch = not (is_below_any barred fetch.path) && nat_le fetch.size most_bytes
+is_tried barred fetch = not (is_below_any barred fetch.path) && nat_le fetch.size most_bytes && nat_lt 0 fetch.id.0
 
 -- the job of a fetch, and the row once its file is placed
 abbrev pub job_of : Fetching → Job

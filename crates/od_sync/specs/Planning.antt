@@ -20,9 +20,11 @@ abbrev pub is_agreed_kind : Agreed → Kind → Bool
 is_agreed_kind agreed.Nothing kind = false
 is_agreed_kind agreed.Folder (kind.Folder child_count) = true
 is_agreed_kind agreed.Folder (kind.File digest) = false
+is_agreed_kind agreed.Folder kind.Bare = false
 is_agreed_kind agreed.Folder kind.Deleted = false
 is_agreed_kind (agreed.File digest) (kind.Folder child_count) = false
 is_agreed_kind (agreed.File digest) (kind.File other) = is_digest digest other
+is_agreed_kind (agreed.File digest) kind.Bare = false
 is_agreed_kind (agreed.File digest) kind.Deleted = false
 
 abbrev pub is_agreed_row : Option BaseRow → Kind → Bool
@@ -62,6 +64,7 @@ is_wanted rows local remote entry = is_free local entry && is_new_below rows loc
 abbrev pub folder_in : List (List ℕ) × Item → Kind → Option (List (List ℕ))
 folder_in entry (kind.Folder child_count) = Some entry.0
 folder_in entry (kind.File digest) = None
+folder_in entry kind.Bare = None
 folder_in entry kind.Deleted = None
 
 abbrev pub folders_of : List (List (List ℕ) × Item) → List (List (List ℕ))
@@ -74,6 +77,7 @@ planned_folders rows local remote = folders_of (filter (is_wanted rows local rem
 abbrev pub file_in : List (List ℕ) × Item → Kind → Option Fetching
 file_in entry (kind.Folder child_count) = None
 file_in entry (kind.File digest) = Some (record { path = entry.0; id = entry.1.id; digest = digest; size = entry.1.size })
+file_in entry kind.Bare = None
 file_in entry kind.Deleted = None
 
 abbrev pub fetches_of : List (List (List ℕ) × Item) → List Fetching

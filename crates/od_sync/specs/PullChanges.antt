@@ -7,7 +7,7 @@ use Rattle.std.specs.Ordering.{nat_cmp, match_ordering}
 use Rattle.gd_item.specs.declared.id.ItemId.{ItemId}
 use Rattle.gd_item.specs.declared.item.Item.{Item}
 use Rattle.gd_item.specs.declared.item.Kind.{Kind}
-use Rattle.gd_item.specs.declared.item.Kind.TheVariants.{Folder, File, Deleted}
+use Rattle.gd_item.specs.declared.item.Kind.TheVariants.{Folder, File, Bare, Deleted}
 use Rattle.gd_item.specs.declared.item.Tag.{Tag}
 use Rattle.od_keeper.specs.Images.{by_id, put_all, without_ids}
 use Rattle.od_keeper.specs.declared.image.Change.{Change}
@@ -28,12 +28,19 @@ pub record IsPullChange (old : List Item) (items : List Item) (token : List ℕ)
 abbrev pub is_same_kind : Kind → Kind → Bool
 is_same_kind (Folder a) (Folder b) = nat_eq a b
 is_same_kind (Folder a) (File d) = false
+is_same_kind (Folder a) Bare = false
 is_same_kind (Folder a) Deleted = false
 is_same_kind (File c) (Folder b) = false
 is_same_kind (File c) (File d) = pointwise nat_eq c.0 d.0
+is_same_kind (File c) Bare = false
 is_same_kind (File c) Deleted = false
+is_same_kind Bare (Folder b) = false
+is_same_kind Bare (File d) = false
+is_same_kind Bare Bare = true
+is_same_kind Bare Deleted = false
 is_same_kind Deleted (Folder b) = false
 is_same_kind Deleted (File d) = false
+is_same_kind Deleted Bare = false
 is_same_kind Deleted Deleted = true
 
 abbrev pub is_same_item : Item → Item → Bool

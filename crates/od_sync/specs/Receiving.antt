@@ -9,7 +9,8 @@ use Rattle.gd_item.specs.declared.step.Step.TheVariants.{Ask}
 use Rattle.gd_item.specs.declared.step.Who.TheVariants.{Own}
 use Rattle.od_keeper.specs.Images.{applied}
 use Rattle.od_keeper.specs.Keeping.{Stay, last_image}
-use Rattle.od_keeper.specs.Sound.{IsSound, uncounted}
+use Rattle.gd_item.specs.Views.{uncounted}
+use Rattle.od_keeper.specs.Sound.{IsSound}
 use Rattle.od_keeper.specs.declared.image.Image.{Image}
 use Rattle.od_mirror.specs.Pulled.{paths_of}
 use Rattle.od_transfer.specs.Asking.{OwnAre}

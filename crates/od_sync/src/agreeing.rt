@@ -45,6 +45,7 @@ fn agreed_file(digest: Digest, kind: Kind) -> Option<Agreed>
                 None
             }
         }
+        Kind::Bare => None,
         Kind::Deleted => None,
     }
 }
@@ -55,6 +56,7 @@ fn agreed_folder(kind: Kind) -> Option<Agreed>
     match kind {
         Kind::Folder { .. } => Some(Agreed::Folder),
         Kind::File { .. } => None,
+        Kind::Bare => None,
         Kind::Deleted => None,
     }
 }

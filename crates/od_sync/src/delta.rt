@@ -1,7 +1,9 @@
-ghost use Rattle.std.specs.Prelude.{◌≡◌, ◌∷◌, [], true, Some, None, IfOk, IfErr};
+ghost use Rattle.std.specs.Prelude.{◌≡◌, ◌&&◌, ◌∷◌, [], true, length, nat_lt, Some, None, IfOk, IfErr};
+ghost use Rattle.std.specs.List.{list_all};
+ghost use Rattle.gd_item.specs.Written.{IsWritten, is_token_byte};
 ghost use Rattle.od_transfer.specs.Asking.{is_last_link, may_answer_delta};
 ghost use Rattle.od_transfer.specs.Undisturbed.{Undisturbed, MayBeServed};
-ghost use Rattle.od_sync.specs.Deltas.{AsksDelta, DeltaAsks, HasDeltaCause, SendsOnce, HasSendCause, is_delta, page_in};
+ghost use Rattle.od_sync.specs.Deltas.{AsksDelta, DeltaAsks, HasDeltaCause, SendsOnce, HasSendCause, is_delta, is_written_token, page_in};
 
 use gd_item::{Page, Reply, Request};
 use gd_names::{NoMemory, Text};
@@ -43,13 +45,36 @@ fn page_in(reply: Reply) -> Option<Page>
     }
 }
 
+fn is_token_byte(byte: u8) -> bool
+    ensures { result ≡ is_token_byte byte }
+{
+    matches!(byte, b'A'..=b'Z' | b'a'..=b'z' | b'0'..=b'9' | b'.')
+}
+
+fn is_token_text(text: &[u8]) -> bool
+    ensures { result ≡ (nat_lt 0 (length text.now) && list_all is_token_byte text.now) }
+{
+    0 < text.len() && text.iter().all(|byte| is_token_byte(*byte))
+}
+
+/// Whether a request for changes can carry a token.
+fn is_written_token(token: &Option<Text>) -> bool
+    ensures { result ≡ is_written_token token.now }
+{
+    match token {
+        Some(text) => is_token_text(text.as_bytes()),
+        None => true,
+    }
+}
+
 /// Sends a request for changes once. Without a page it says how many replies came, of which there is one at most.
 fn send_delta<R: Remote>(
     remote: &mut R,
     alloc: Global,
     request: &Request,
 ) -> Result<Result<Page, u64>, NoMemory>
-    requires { is_delta request.now ≡ true }
+    requires delta { is_delta request.now ≡ true }
+    requires written { IsWritten request.now }
     ensures log { SendsOnce request.now (R.log remote.old) (R.log remote.new) result }
     ensures cause { HasSendCause (R.faults remote.old) (R.faults remote.new) (R.answers remote.old) (R.answers remote.new) (R.in_row remote.old) (R.in_row remote.new) result }
     ensures undisturbed { Undisturbed (R.undisturbed remote.old) (R.undisturbed remote.new) (R.log remote.old) (R.log remote.new) }
@@ -70,7 +95,8 @@ fn send_again<R: Remote>(
     alloc: Global,
     request: &Request,
 ) -> Result<Page, DeltaFault>
-    requires { is_delta request.now ≡ true }
+    requires delta { is_delta request.now ≡ true }
+    requires written { IsWritten request.now }
     ensures log { DeltaAsks request.now (R.log remote.old) (R.log remote.new) result }
     ensures cause { HasDeltaCause (R.faults remote.old) (R.faults remote.new) (R.answers remote.old) (R.answers remote.new) (R.in_row remote.new) result }
     ensures undisturbed { Undisturbed (R.undisturbed remote.old) (R.undisturbed remote.new) (R.log remote.old) (R.log remote.new) }
@@ -92,7 +118,7 @@ fn send_again<R: Remote>(
 }
 
 /// Asks for the changes since a token, or for everything. The request is sent again after a failure, and where the
-/// drive lacks memory, three times in all.
+/// drive lacks memory, three times in all. No request is made that cannot carry its token: that ends as want of memory does.
 pub fn ask_delta<R: Remote>(
     remote: &mut R,
     alloc: Global,
@@ -104,6 +130,9 @@ pub fn ask_delta<R: Remote>(
     ensures undisturbed { Undisturbed (R.undisturbed remote.old) (R.undisturbed remote.new) (R.log remote.old) (R.log remote.new) }
     ensures no_faults { R.undisturbed remote.old ≡ true → MayBeServed (Request.Delta token) (R.log remote.old) → R.faults remote.new ≡ R.faults remote.old }
 {
+    if !is_written_token(&token) {
+        return Err(DeltaFault::Memory);
+    }
     let request = Request::Delta { token };
     send_again(remote, alloc, &request)
 }

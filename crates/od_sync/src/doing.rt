@@ -189,10 +189,11 @@ pub fn place_files<T: Tree>(
 fn is_tried(barred: &[Path], fetch: &Fetching) -> bool
     ensures { result ≡ is_tried barred.now fetch.now }
 {
-    !is_below_any(barred, &fetch.path) && fetch.size <= MOST_BYTES
+    !is_below_any(barred, &fetch.path) && fetch.size <= MOST_BYTES && 0 < fetch.id.0
 }
 
-/// The fetches that are tried: those that are not below a folder that could not be made, and not too large.
+/// The fetches that are tried: those that are not below a folder that could not be made, not too large, and of an item
+/// that can be asked for.
 pub fn tried_fetches(fetches: List<Fetching>, barred: &[Path]) -> List<Fetching>
     ensures { result ≡ filter (is_tried barred.now) fetches }
 {

@@ -48,6 +48,7 @@ fn carry_batch<R: Carrier>(
     remote: &mut R,
     batch: &[Fetching],
 ) -> Result<List<Outcome>, NoMemory>
+    requires { All (λ fetch. 0 < fetch.id.0) batch.now }
     ensures same { IfOk result (λ outcomes. length batch.now ≡ length outcomes) }
     ensures fits { IfOk result (λ outcomes. AllZip IsFetchFit batch.now outcomes) }
     ensures log { Grows IsTransfer (R.log remote.old) (R.log remote.new) }
@@ -71,7 +72,8 @@ fn fetch_files<R: Carrier, T: Tree>(
     tree: &mut T,
     batch: &[Fetching],
 ) -> Result<List<BaseRow>, FolderFault>
-    requires { All (λ fetch. 0 < length fetch.path) batch.now }
+    requires below { All (λ fetch. 0 < length fetch.path) batch.now }
+    requires written { All (λ fetch. 0 < fetch.id.0) batch.now }
     ensures requests { Grows IsTransfer (R.log remote.old) (R.log remote.new) }
     ensures steps { Makes NoFolder (IsFetchOf batch.now) (T.log tree.old) (T.log tree.new) }
     ensures fetches { OnOk result (FetchesFiles batch.now (R.faults remote.old) (R.faults remote.new) (R.log remote.old) (R.log remote.new) (T.log tree.old) (T.log tree.new)) }
@@ -139,7 +141,8 @@ fn fetch_batch<R: Carrier, T: Tree, K: Keeper>(
     image: Image,
     batch: &[Fetching],
 ) -> Result<Image, SyncStop>
-    requires { All (λ fetch. 0 < length fetch.path) batch.now }
+    requires below { All (λ fetch. 0 < length fetch.path) batch.now }
+    requires written { All (λ fetch. 0 < fetch.id.0) batch.now }
     ensures fetches { IfOk result (λ next. Fetches image batch.now next (R.faults remote.old) (R.faults remote.new) (R.log remote.old) (R.log remote.new) (T.log tree.old) (T.log tree.new) (K.images keeper.old) (K.images keeper.new)) }
     ensures steps { Makes NoFolder (IsFetchOf batch.now) (T.log tree.old) (T.log tree.new) }
     ensures stops { OnErr result (Stops image [] (R.log remote.old) (R.log remote.new) (T.log tree.old) (T.log tree.new) (K.images keeper.old) (K.images keeper.new)) }
@@ -172,6 +175,7 @@ fn fetch_all<R: Carrier, T: Tree, K: Keeper>(
 ) -> Result<Image, SyncStop>
     requires below { All (λ fetch. 0 < length fetch.path) fetches.now }
     requires light { All (λ fetch. fetch.size ≤ most_bytes) fetches.now }
+    requires written { All (λ fetch. 0 < fetch.id.0) fetches.now }
     ensures fetches { IfOk result (λ next. Fetches image fetches.now next (R.faults remote.old) (R.faults remote.new) (R.log remote.old) (R.log remote.new) (T.log tree.old) (T.log tree.new) (K.images keeper.old) (K.images keeper.new)) }
     ensures steps { Makes NoFolder (IsFetchOf fetches.now) (T.log tree.old) (T.log tree.new) }
     ensures stops { Stops image fetches.now (R.log remote.old) (R.log remote.new) (T.log tree.old) (T.log tree.new) (K.images keeper.old) (K.images keeper.new) }

@@ -1,25 +1,17 @@
 //! Laws of the definitions, each the contract of a function that does nothing.
-ghost use Rattle.std.specs.Prelude.{◌≡◌, ℕ, ◌<◌, ◌≤◌, true, false, [], ◌∷◌, ◌++◌, length, map, None, Some, List, Option};
+ghost use Rattle.std.specs.Prelude.{◌≡◌, ℕ, ◌<◌, true, [], ◌∷◌, ◌++◌, length, map, None, Some, List, Option};
 ghost use Rattle.std.specs.List.{All};
-ghost use Rattle.gd_item.specs.Answers.{answer_of};
 ghost use Rattle.gd_item.specs.Steps.{state_of, held_by, accepted_by};
 ghost use Rattle.gd_item.specs.Trees.{tree_of};
-ghost use Rattle.gd_item.specs.Records.{records_of, size_of};
+ghost use Rattle.gd_item.specs.Records.{records_of};
 ghost use Rattle.gd_item.specs.declared.item.Item.{Item};
-ghost use Rattle.gd_item.specs.declared.live.LiveItem.{LiveItem};
-ghost use Rattle.gd_item.specs.declared.reply.Page.{Page};
-ghost use Rattle.gd_item.specs.declared.reply.PageLink.{PageLink};
-ghost use Rattle.gd_item.specs.declared.reply.Reply.{Reply};
-ghost use Rattle.gd_item.specs.declared.request.Request.{Request};
 ghost use Rattle.gd_item.specs.declared.step.Step.{Step};
-ghost use Rattle.gd_item.specs.declared.step.Who.{Who};
 ghost use Rattle.gd_item.specs.Views.{ItemsAre, uncounted};
 ghost use Rattle.od_mirror.specs.Pulled.{paths_of};
 ghost use Rattle.od_mirror.specs.Pulls.{token_then};
 ghost use Rattle.od_mirror.specs.declared.view.MirrorView.{MirrorView};
 ghost use Rattle.od_transfer.specs.Alone.{AreOwnServed};
 ghost use Rattle.od_transfer.specs.Asking.{OwnAre};
-ghost use Rattle.od_transfer.specs.Undisturbed.{is_servable};
 ghost use Rattle.od_sync.specs.Comparing.{is_same, scanned};
 ghost use Rattle.od_sync.specs.FreshPlans.{FreshPlan};
 ghost use Rattle.od_sync.specs.Planning.{planned_fetches, planned_folders};
@@ -29,20 +21,20 @@ ghost use Rattle.od_tree.specs.Collisions.{NoCollision};
 ghost use Rattle.od_tree.specs.Local.{local_tree};
 ghost use Rattle.od_tree.specs.declared.step.LocalStep.{LocalStep};
 
-/// A first pull gives what the drive held when it was asked, if it is not plain, and the token of that moment.
+/// A first pull gives what the drive held when it was asked, and the token of that moment.
 pub fn a_first_pull_mirrors_the_drive()
     ensures items { (old : List Step) (after : Option (List Step)) (view : MirrorView) (pulled : PullsView [] None old after view)
-        → (state_of (seen old pulled.last)).plain ≡ false → view.items ≡ records_of (held_by (seen old pulled.last)) }
+        → view.items ≡ records_of (held_by (seen old pulled.last)) }
     ensures token { (old : List Step) (after : Option (List Step)) (view : MirrorView) (pulled : PullsView [] None old after view)
         → view.token ≡ token_then (seen old pulled.last) }
 {}
 
-/// A pull over the items and the token of a sound image never gives bad items, and what it gives is sound in turn. Of a drive that is
-/// not plain it is what the drive held when it was asked, but for the numbers of children.
+/// A pull over the items and the token of a sound image gives what the drive held when it was asked, but for the numbers of
+/// children, and never bad items. What it gives is sound in turn.
 pub fn a_pull_mirrors_the_drive()
     ensures items { (items : List Item) (token : Option (List ℕ)) (old : List Step) (after : Option (List Step)) (view : MirrorView)
         (pulled : PullsView items token old after view) → ItemsAre items old token
-        → (state_of (seen old pulled.last)).plain ≡ false → map uncounted view.items ≡ map uncounted (records_of (held_by (seen old pulled.last))) }
+        → map uncounted view.items ≡ map uncounted (records_of (held_by (seen old pulled.last))) }
     ensures sound { (items : List Item) (token : Option (List ℕ)) (old : List Step) (after : Option (List Step)) (view : MirrorView)
         (pulled : PullsView items token old after view) → ItemsAre items old token → ItemsAre view.items (seen old pulled.last) (Some view.token) }
     ensures never_bad { (items : List Item) (token : Option (List ℕ)) (old : List Step) (after : Option (List Step)) (number : ℕ)
@@ -63,16 +55,9 @@ pub fn the_same_trees_have_the_same_entries()
         → local_tree local ≡ tree_of (held_by drive) → is_same (scanned (local_tree local)) (paths_of items) ≡ true }
 {}
 
-/// Whatever the log of a drive is, each file has at most 67,108,864 bytes, and the token at the end of a last page is served. Served
-/// requests of a sync leave the drive as it is, and a request of another client leaves a token served.
-pub fn what_every_drive_keeps()
-    ensures sizes { (drive : List Step) → All (λ (item : LiveItem). size_of item.bytes ≤ 67108864) (held_by drive).items }
-    ensures page_token { (log : List Step) (token : Option (List ℕ)) (size : ℕ) (page : Page) (text : List ℕ)
-        → Reply.Page page ≡ answer_of log size (Request.Delta token) → page.link ≡ PageLink.Delta text
-        → is_servable (state_of log) (Request.Delta (Some text)) ≡ true }
-    ensures own { (old part : List Step) → OwnAre IsSyncRequest part → AreOwnServed part → state_of (old ++ part) ≡ state_of old }
-    ensures others { (log : List Step) (request : Request) (token : Option (List ℕ)) → is_servable (state_of log) (Request.Delta token) ≡ true
-        → is_servable (state_of (log ++ Step.Ask Who.Other request true true ∷ [])) (Request.Delta token) ≡ true }
+/// Served requests of a sync change nothing on the drive.
+pub fn syncs_change_nothing()
+    ensures { (old part : List Step) → OwnAre IsSyncRequest part → AreOwnServed part → state_of (old ++ part) ≡ state_of old }
 {}
 
 /// Where nothing stands in the folder and nothing was agreed on, the plan can be done, and makes the drive's tree. No entry is

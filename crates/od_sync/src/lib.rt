@@ -17,8 +17,6 @@ mod receiving;
 mod rounds;
 mod scanning;
 mod syncing;
-#[cfg(test)]
-mod tests;
 mod waiting;
 
 pub use agreeing::agree;
@@ -30,8 +28,8 @@ pub use ends::{SyncEnd, SyncStop};
 pub use fetching::do_plan;
 pub use laws::{
     a_first_pull_mirrors_the_drive, a_fresh_plan_makes_the_drives_tree, a_pull_mirrors_the_drive,
-    the_same_entries_are_the_same_trees, the_same_trees_have_the_same_entries,
-    what_every_drive_keeps,
+    syncs_change_nothing, the_same_entries_are_the_same_trees,
+    the_same_trees_have_the_same_entries,
 };
 pub use looking::{Sides, look};
 pub use planning::{Fetching, Plan, make_plan};

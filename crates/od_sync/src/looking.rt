@@ -65,7 +65,7 @@ fn commit_agreement<K: Keeper>(
     })
 }
 
-/// GrowsByLooks at both sides: pulls the drive and commits what was pulled, scans the folder, and commits what both agree on.
+/// Looks at both sides: pulls the drive and commits what was pulled, scans the folder, and commits what both agree on.
 pub fn look<R: Remote, T: Tree, K: Keeper>(
     alloc: Global,
     remote: &mut R,

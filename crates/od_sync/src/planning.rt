@@ -127,6 +127,7 @@ fn folder_in(entry: &(Path, Item)) -> Result<Option<Path>, AllocError>
     match entry.1.kind {
         Kind::Folder { .. } => Ok(Some(entry.0.clone()?)),
         Kind::File { .. } => Ok(None),
+        Kind::Bare => Ok(None),
         Kind::Deleted => Ok(None),
     }
 }
@@ -173,6 +174,7 @@ fn file_in(entry: &(Path, Item)) -> Result<Option<Fetching>, AllocError>
             digest,
             size: entry.1.size,
         })),
+        Kind::Bare => Ok(None),
         Kind::Deleted => Ok(None),
     }
 }

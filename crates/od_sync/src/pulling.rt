@@ -79,7 +79,7 @@ pub fn pull<R: Remote>(
     ensures undisturbed { Undisturbed (R.undisturbed remote.old) (R.undisturbed remote.new) (R.log remote.old) (R.log remote.new) }
     ensures no_faults { R.undisturbed remote.old ≡ true → MayBeServed (Delta token) (R.log remote.old) → R.faults remote.new ≡ R.faults remote.old }
 {
-    let mirror = Mirror::start(alloc, items, token)?;
+    let mirror = Mirror::start(alloc, items, token);
     let asked = next_token(&mirror)?;
     let page = match ask_delta(remote, alloc, asked) {
         Ok(page) => page,

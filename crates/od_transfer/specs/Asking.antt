@@ -61,13 +61,17 @@ IsSentAs request sent = IsWritten request → sent ≡ request
 abbrev pub given : Bool → List Step → ℕ → Request → Reply
 given served log size request = answer_served served (state_of log) size request
 
--- a reply is the drive's, at a log, to what a request came as. A page has from 1 to 200 items at most. The drive is not
--- plain: no told drive is made so as long as clients learn no digests
+-- how many items a reply has at most: from 1 to 200. In this stage changes come in one page, however many there are
+abbrev pub IsPageSize : Request → ℕ → Type 0
+IsPageSize (Delta token) size = 1 ≤ size
+IsPageSize request size = (1 ≤ size) × (size ≤ 200)
+
+-- a reply is the drive's, at a log, to what a request came as. The drive is not plain: no told drive is made so as long as
+-- clients learn no digests
 pub record Answers (request sent : Request) (served : Bool) (log : List Step) (reply : Reply) : Type 0 where
   pub sent_as : IsSentAs request sent
   pub size : ℕ
-  pub some : 1 ≤ size
-  pub most : size ≤ 200
+  pub page_size : IsPageSize sent size
   pub not_plain : (state_of log).plain ≡ false
   pub reply_is : reply ≡ given served log size sent
 

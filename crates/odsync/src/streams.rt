@@ -21,6 +21,12 @@ impl<R: Read + Drop> Source for Reading<R> {
 
     ghost faults = { λ s. s.faults };
 
+    ghost goes = { λ x y. Unit {0} };
+
+    ghost goes_refl = { λ x. tt };
+
+    ghost goes_trans = { λ x y z first second. tt };
+
     fn read(&mut self, room: &mut [u8]) -> Result<usize, SourceFault> {
         match self.inner.read(room) {
             Ok(count) => Ok(count),
@@ -49,6 +55,12 @@ impl<W: Write + Drop> Sink for Writing<W> {
     ghost written = { λ s. None };
 
     ghost faults = { λ s. s.faults };
+
+    ghost goes = { λ x y. Unit {0} };
+
+    ghost goes_refl = { λ x. tt };
+
+    ghost goes_trans = { λ x y z first second. tt };
 
     fn write(&mut self, bytes: &[u8]) -> Result<(), SinkFault> {
         match self.inner.write_all(bytes) {

@@ -17,7 +17,7 @@ returns-in_err-sent-clause-undisturbed g c =
 pub returns-in_err-sent-clause-no_faults : goal.returns-in_err-sent-clause-no_faults
 returns-in_err-sent-clause-no_faults g c =
     no-faults-again c.args.request.now c.loop-sent._sent c.loop-sent.replies (g.R.Remote.undisturbed c.args.remote.now) (g.R.Remote.undisturbed c.loop-sent.remote) (g.R.Remote.log c.args.remote.now) (g.R.Remote.log c.loop-sent.remote)
-    (g.R.Remote.faults c.args.remote.now) (g.R.Remote.faults c.loop-sent.remote) (g.R.Remote.faults c.send_delta.new.remote) c.loop-sent.invariant.undisturbed c.loop-sent.invariant.log c.loop-sent.invariant.no_faults
+    (g.R.Remote.faults c.args.remote.now) (g.R.Remote.faults c.loop-sent.remote) (g.R.Remote.faults c.send_delta.new.remote) c.requires.delta c.loop-sent.invariant.undisturbed c.loop-sent.invariant.log c.loop-sent.invariant.no_faults
     c.in_err-sent.ensures.no_faults
 
 pub returns-in-Ok-clause-log : goal.returns-in-Ok-clause-log
@@ -33,7 +33,7 @@ returns-in-Ok-clause-undisturbed g c =
 pub returns-in-Ok-clause-no_faults : goal.returns-in-Ok-clause-no_faults
 returns-in-Ok-clause-no_faults g c =
     no-faults-again c.args.request.now c.loop-sent._sent c.loop-sent.replies (g.R.Remote.undisturbed c.args.remote.now) (g.R.Remote.undisturbed c.loop-sent.remote) (g.R.Remote.log c.args.remote.now) (g.R.Remote.log c.loop-sent.remote)
-    (g.R.Remote.faults c.args.remote.now) (g.R.Remote.faults c.loop-sent.remote) (g.R.Remote.faults c.send_delta.new.remote) c.loop-sent.invariant.undisturbed c.loop-sent.invariant.log c.loop-sent.invariant.no_faults
+    (g.R.Remote.faults c.args.remote.now) (g.R.Remote.faults c.loop-sent.remote) (g.R.Remote.faults c.send_delta.new.remote) c.requires.delta c.loop-sent.invariant.undisturbed c.loop-sent.invariant.log c.loop-sent.invariant.no_faults
     c.in_ok-sent.ensures.no_faults
 
 pub loop-sent-preserved : goal.loop-sent-preserved
@@ -54,7 +54,7 @@ loop-sent-preserved g c =
       undisturbed = undisturbed-then (g.R.Remote.undisturbed c.args.remote.now) (g.R.Remote.undisturbed c.loop-sent.remote) (g.R.Remote.undisturbed c.send_delta.new.remote)
           (g.R.Remote.log c.args.remote.now) (g.R.Remote.log c.loop-sent.remote) (g.R.Remote.log c.send_delta.new.remote) before.undisturbed one.undisturbed;
       no_faults = no-faults-again c.args.request.now c.loop-sent._sent c.loop-sent.replies (g.R.Remote.undisturbed c.args.remote.now) (g.R.Remote.undisturbed c.loop-sent.remote) (g.R.Remote.log c.args.remote.now) (g.R.Remote.log c.loop-sent.remote)
-          (g.R.Remote.faults c.args.remote.now) (g.R.Remote.faults c.loop-sent.remote) (g.R.Remote.faults c.send_delta.new.remote) before.undisturbed before.log before.no_faults one.no_faults;
+          (g.R.Remote.faults c.args.remote.now) (g.R.Remote.faults c.loop-sent.remote) (g.R.Remote.faults c.send_delta.new.remote) c.requires.delta before.undisturbed before.log before.no_faults one.no_faults;
     }
 
 pub returns-then-replies-eq0-clause-log : goal.returns-then-replies-eq0-clause-log

@@ -3,7 +3,7 @@ use Rattle.std.specs.List.{All}
 use Rattle.od_sync.specs.Doing.{MakesAll, is_tried, most_bytes}
 use Rattle.od_sync.specs.declared.planning.Fetching.{Fetching}
 use Rattle.od_sync.proofs.Batched.{stops-none}
-use Rattle.od_sync.proofs.Done.{does-plan, goes-plan, makes-folders, makes-plan, tried-below, tried-light}
+use Rattle.od_sync.proofs.Done.{does-plan, goes-plan, makes-folders, makes-plan, tried-below, tried-light, tried-written}
 use Rattle.od_sync.proofs.RowsPut.{puts-folders, puts-then}
 use Rattle.od_sync.proofs.SyncAlone.{tree-then}
 use Rattle.od_sync.proofs.fetching.do_plan.Goals as goal
@@ -34,6 +34,12 @@ fetch_all-requires-clause-light g c =
     subst (λ fetches. All (λ (fetch : Fetching). fetch.size ≤ most_bytes) fetches)
     (sym (tried-is c.tried_fetches-tried.result c.as_slice-3.result.now c.args.plan.fetches c.as_slice-2.result.now c.in_ok-barred.barred c.tried_fetches-tried.ensures c.as_slice-3.ensures c.as_slice-2.ensures))
     (tried-light c.in_ok-barred.barred c.args.plan.fetches)
+
+pub fetch_all-requires-clause-written : goal.fetch_all-requires-clause-written
+fetch_all-requires-clause-written g c =
+    subst (λ fetches. All (λ (fetch : Fetching). 0 < fetch.id.0) fetches)
+    (sym (tried-is c.tried_fetches-tried.result c.as_slice-3.result.now c.args.plan.fetches c.as_slice-2.result.now c.in_ok-barred.barred c.tried_fetches-tried.ensures c.as_slice-3.ensures c.as_slice-2.ensures))
+    (tried-written c.in_ok-barred.barred c.args.plan.fetches)
 
 pub returns-in-Ok-clause-goes : goal.returns-in-Ok-clause-goes
 returns-in-Ok-clause-goes g c =

@@ -20,6 +20,7 @@ pub loop-left-init : goal.loop-left-init
 loop-left-init g c = record {
   below = c.requires.below;
   light = c.requires.light;
+  written = c.requires.written;
   fetches = so-far-first c.args.image c.args.fetches.now (g.R.Remote.faults c.args.remote.now) (g.R.Remote.log c.args.remote.now) (g.T.Tree.log c.args.tree.now) (g.K.Keeper.images c.args.keeper.now);
   steps = makes-none (g.T.Tree.log c.args.tree.now);
   rows = puts-none c.args.image (g.T.Tree.log c.args.tree.now);
@@ -76,6 +77,7 @@ pub loop-left-preserved : goal.loop-left-preserved
 loop-left-preserved g c = record {
   below = subst (λ fetches. All (λ (fetch : Fetching). 0 < length fetch.path) fetches) (sym c.split_at.ensures.back) (All-drop (λ (fetch : Fetching). 0 < length fetch.path) c.batch_length.result c.loop-left.left.now c.loop-left.invariant.below);
   light = subst (λ fetches. All (λ (fetch : Fetching). fetch.size ≤ most_bytes) fetches) (sym c.split_at.ensures.back) (All-drop (λ (fetch : Fetching). fetch.size ≤ most_bytes) c.batch_length.result c.loop-left.left.now c.loop-left.invariant.light);
+  written = subst (λ fetches. All (λ (fetch : Fetching). 0 < fetch.id.0) fetches) (sym c.split_at.ensures.back) (All-drop (λ (fetch : Fetching). 0 < fetch.id.0) c.batch_length.result c.loop-left.left.now c.loop-left.invariant.written);
   fetches =
       so-far-next c.args.image c.args.fetches.now c.loop-left.left.now c.split_at.result.0.now c.split_at.result.1.now c.loop-left.last c.in_ok-last.last
       (g.R.Remote.faults c.args.remote.now) (g.R.Remote.faults c.loop-left.remote) (g.R.Remote.faults c.fetch_batch.new.remote)

@@ -16,6 +16,7 @@ abbrev pub invariant-loop-left : goal.invariant-loop-left
 invariant-loop-left g l = record {
   below : All (λ (fetch : Fetching). 0 < length fetch.path) l.left;
   light : All (λ (fetch : Fetching). fetch.size ≤ most_bytes) l.left;
+  written : All (λ (fetch : Fetching). 0 < fetch.id.0) l.left;
   fetches :
       FetchesSoFar l.fn.image l.fetches l.left l.last (g.R.Remote.faults l.fn.remote) (g.R.Remote.faults l.remote) (g.R.Remote.log l.fn.remote) (g.R.Remote.log l.remote)
       (g.T.Tree.log l.fn.tree) (g.T.Tree.log l.tree) (g.K.Keeper.images l.fn.keeper) (g.K.Keeper.images l.keeper);

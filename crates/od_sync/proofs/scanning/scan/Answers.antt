@@ -3,7 +3,7 @@ use Rattle.std.specs.Vec.{vec_len}
 use Rattle.od_sync.specs.Visits.{turns}
 use Rattle.od_sync.specs.declared.scanning.Node.{Node}
 use Rattle.od_sync.proofs.Finding.{FindsSoFar, finds-first, finds-next, finds-last, none-left}
-use Rattle.od_sync.proofs.LeftAlone.{undisturbed_then}
+use Rattle.od_tree.proofs.LeftAlone.{undisturbed_then}
 use Rattle.od_sync.proofs.Looks.{looks-then}
 use Rattle.od_sync.proofs.scanning.scan.Goals as goal
 

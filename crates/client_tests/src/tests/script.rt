@@ -1,5 +1,5 @@
-use super::*;
-use crate::line::Content;
+use od_cli::{Content, Line, ScriptFault, read_script};
+use std::alloc::Global;
 use std::test::Fail;
 
 /// How many lines a text spells.

@@ -1,5 +1,5 @@
-use super::*;
 use gd_names::{Bytes, List, MemorySink, MemorySource};
+use od_cli::{ReplayStatus, replay_main};
 use std::alloc::Global;
 use std::test::Fail;
 
@@ -141,19 +141,26 @@ fn faults(rt: HostRuntime) -> Result<(), Fail> {
     assert_eq!(rt; written.len(), 0);
     let (ended, _) = replay_text(alloc, b"pull\n", Vec::new(alloc), vec![in alloc; 1]?)?;
     assert_eq!(rt; ended, ReplayStatus::WriteFault);
-    let long = Bytes::from_vec(vec![in alloc; b'#'; 8_388_609]?);
+    Ok(())
+}
+
+/// Replays a text of so many bytes.
+fn replay_long(alloc: Global, length: usize, words: &[String]) -> Result<ReplayStatus, Fail> {
+    let long = Bytes::from_vec(vec![in alloc; b'#'; length]?);
     let mut source = MemorySource::new(long, 1_000_000, List::new(alloc));
     let mut sink = MemorySink::new(alloc, List::new(alloc));
+    Ok(replay_main(alloc, words, &mut source, &mut sink))
+}
+
+#[test]
+fn refused(rt: HostRuntime) -> Result<(), Fail> {
+    let alloc = rt.alloc();
     let replay = words(alloc, &["replay"])?;
-    assert_eq!(rt;
-        replay_main(alloc, replay.as_slice(), &mut source, &mut sink),
-        ReplayStatus::TooLong
-    );
+    let long = replay_long(alloc, 8_388_609, replay.as_slice())?;
+    assert_eq!(rt; long, ReplayStatus::TooLong);
     let other = words(alloc, &["replay", "replay"])?;
-    assert_eq!(rt;
-        replay_main(alloc, other.as_slice(), &mut source, &mut sink),
-        ReplayStatus::Usage
-    );
+    let usage = replay_long(alloc, 1, other.as_slice())?;
+    assert_eq!(rt; usage, ReplayStatus::Usage);
     assert_eq!(rt; ReplayStatus::WriteFault.number(), 8);
     Ok(())
 }
