@@ -83,11 +83,11 @@ begin_at d = do
   defer ← optional of.DeferCommit as_bool (get (codes "deferCommit") begin)
   Ok (record { name = name; behaviour = behaviour; defer = unwrap_or defer false })
 
-abbrev pub begin_data : BeginBody → Data
-begin_data v =
+abbrev pub begin_item_data : BeginBody → Data
+begin_item_data v =
     object
-    (put (codes "item")
-      (object
-      (put_optional (codes "name") (option_map string v.name)
-      (put (codes "@microsoft.graph.conflictBehavior") (string (behaviour_text v.behaviour)) no_members)))
-    (put (codes "deferCommit") (boolean v.defer) no_members))
+    (put_optional (codes "name") (option_map string v.name)
+    (put (codes "@microsoft.graph.conflictBehavior") (string (behaviour_text v.behaviour)) no_members))
+
+abbrev pub begin_data : BeginBody → Data
+begin_data v = object (put (codes "item") (begin_item_data v) (put (codes "deferCommit") (boolean v.defer) no_members))

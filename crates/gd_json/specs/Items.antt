@@ -138,18 +138,24 @@ abbrev pub put_parent : Option ItemId → Option (List ℕ) → Members → Memb
 put_parent None path ms = ms
 put_parent (Some id) path ms = put (codes "parentReference") (parent_data id path) ms
 
-abbrev pub put_kind : Kind → Members → Members
-put_kind (Folder count) ms = put (codes "folder") (only (codes "childCount") (number (unsigned count))) ms
-put_kind (File digest) ms = put (codes "file") (only (codes "hashes") (only (codes "sha256Hash") (string (digest_text digest)))) ms
-put_kind Bare ms = put (codes "file") (object no_members) ms
-put_kind Deleted ms = put (codes "deleted") (only (codes "state") (string (codes "deleted"))) ms
+abbrev pub kind_name : Kind → List ℕ
+kind_name (Folder count) = codes "folder"
+kind_name (File digest) = codes "file"
+kind_name Bare = codes "file"
+kind_name Deleted = codes "deleted"
+
+abbrev pub kind_data : Kind → Data
+kind_data (Folder count) = only (codes "childCount") (number (unsigned count))
+kind_data (File digest) = only (codes "hashes") (only (codes "sha256Hash") (string (digest_text digest)))
+kind_data Bare = object no_members
+kind_data Deleted = only (codes "state") (string (codes "deleted"))
 
 abbrev pub put_root : ItemId → Members → Members
 put_root id ms = cond (nat_eq id.0 1) (put (codes "root") (object no_members) ms) ms
 
 -- what deleted items have too
 abbrev pub common_members : Item → Members
-common_members v = put_parent v.parent v.parent_path (put_kind v.kind (put (codes "id") (id_data v.id) (put (codes "eTag") (string v.etag.0) no_members)))
+common_members v = put_parent v.parent v.parent_path (put (kind_name v.kind) (kind_data v.kind) (put (codes "id") (id_data v.id) (put (codes "eTag") (string v.etag.0) no_members)))
 
 abbrev pub tag_data : Tag → Data
 tag_data tag = string tag.0
