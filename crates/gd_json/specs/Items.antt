@@ -134,9 +134,9 @@ abbrev pub parent_data : ItemId → Option (List ℕ) → Data
 parent_data id path =
     object (put_optional (codes "path") (option_map string path) (put (codes "id") (id_data id) (put (codes "driveId") (string (codes "gd1")) no_members)))
 
-abbrev pub put_parent : Option ItemId → Option (List ℕ) → Members → Members
-put_parent None path ms = ms
-put_parent (Some id) path ms = put (codes "parentReference") (parent_data id path) ms
+abbrev pub reference_data : Option ItemId → Option (List ℕ) → Option Data
+reference_data None path = None
+reference_data (Some id) path = Some (parent_data id path)
 
 abbrev pub kind_name : Kind → List ℕ
 kind_name (Folder count) = codes "folder"
@@ -150,19 +150,22 @@ kind_data (File digest) = only (codes "hashes") (only (codes "sha256Hash") (stri
 kind_data Bare = object no_members
 kind_data Deleted = only (codes "state") (string (codes "deleted"))
 
-abbrev pub put_root : ItemId → Members → Members
-put_root id ms = cond (nat_eq id.0 1) (put (codes "root") (object no_members) ms) ms
+abbrev pub root_data : ItemId → Option Data
+root_data id = cond (nat_eq id.0 1) (Some (object no_members)) None
 
 -- what deleted items have too
 abbrev pub common_members : Item → Members
-common_members v = put_parent v.parent v.parent_path (put (kind_name v.kind) (kind_data v.kind) (put (codes "id") (id_data v.id) (put (codes "eTag") (string v.etag.0) no_members)))
+common_members v =
+    put_optional (codes "parentReference") (reference_data v.parent v.parent_path)
+    (put (kind_name v.kind) (kind_data v.kind) (put (codes "id") (id_data v.id) (put (codes "eTag") (string v.etag.0) no_members)))
 
 abbrev pub tag_data : Tag → Data
 tag_data tag = string tag.0
 
 abbrev pub living_members : Item → Members
 living_members v =
-    put_root v.id (put (codes "size") (number (unsigned v.size)) (put (codes "name") (string v.name) (put_optional (codes "cTag") (option_map tag_data v.ctag) (common_members v))))
+    put_optional (codes "root") (root_data v.id)
+    (put (codes "size") (number (unsigned v.size)) (put (codes "name") (string v.name) (put_optional (codes "cTag") (option_map tag_data v.ctag) (common_members v))))
 
 abbrev pub members_of_kind : Kind → Item → Members
 members_of_kind (Folder count) v = living_members v

@@ -18,8 +18,11 @@ unfoldable pub delta_front : List ℕ → List ℕ
 delta_front base = base ++ codes "/v1.0/me/drive/root/delta?token="
 
 -- whether the text may be a token in a link: letters, digits and dots, at least one
+unfoldable pub is_token_byte : ℕ → Bool
+is_token_byte b = is_letter_or_digit b || nat_eq b 46
+
 unfoldable pub is_token : List ℕ → Bool
-is_token token = not (nat_eq (length token) 0) && list_all (λ b. is_letter_or_digit b || nat_eq b 46) token
+is_token token = not (nat_eq (length token) 0) && list_all is_token_byte token
 
 abbrev pub token_in : List ℕ → Option (List ℕ)
 token_in rest = cond (is_token rest) (Some rest) None

@@ -6,6 +6,7 @@ ghost use Rattle.serde_json.specs.View.{view};
 ghost use Rattle.serde_json.specs.Written.{compact_text};
 ghost use Rattle.gd_json.specs.Bodies.{body, JsonBody, or_empty};
 ghost use Rattle.gd_json.specs.Faults.{Gives};
+ghost use Rattle.gd_json.specs.Members.{optional};
 ghost use Rattle.gd_json.specs.Changes.{behaviour_at, begin_at, begin_item_data, begin_data};
 
 use crate::conflict::{behaviour_in, behaviour_text};
@@ -28,8 +29,9 @@ pub struct BeginBody {
     pub defer: bool,
 }
 
+#[tactic(auto, unfolding(crate::specs::Changes::behaviour_at))]
 fn behaviour_of(item: Option<&Value>) -> Result<Conflict, JsonFault>
-    ensures { Gives (λ x. x) result (behaviour_at (option_and_then (get (codes "@microsoft.graph.conflictBehavior")) (option_map (λ v. view v.now) item))) }
+    ensures { Gives (λ x. x) result (behaviour_at (option_and_then (get (codes "@microsoft.graph.conflictBehavior")) (option_map (λ v. view v.now) item.entry))) }
 {
     match item {
         None => Ok(Conflict::Fail),
@@ -38,7 +40,7 @@ fn behaviour_of(item: Option<&Value>) -> Result<Conflict, JsonFault>
 }
 
 fn name_of(alloc: Global, item: Option<&Value>) -> Result<Option<Text>, JsonFault>
-    ensures { Gives (λ x. x) result (optional Member.Name as_str (option_and_then (get (codes "name")) (option_map (λ v. view v.now) item))) }
+    ensures { Gives (λ x. x) result (optional Member.Name as_str (option_and_then (get (codes "name")) (option_map (λ v. view v.now) item.entry))) }
 {
     match item {
         None => Ok(None),

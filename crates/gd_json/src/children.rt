@@ -1,9 +1,12 @@
 //! A list of children.
-ghost use Rattle.std.specs.Prelude.{◌≡◌, IfOk};
+ghost use Rattle.std.specs.Prelude.{◌≡◌, IfOk, All, codes};
+ghost use Rattle.serde_json.specs.Find.{get};
 ghost use Rattle.serde_json.specs.View.{view};
 ghost use Rattle.serde_json.specs.Written.{compact_text};
 ghost use Rattle.gd_json.specs.Bodies.{body, JsonBody};
 ghost use Rattle.gd_json.specs.Faults.{Gives, ok_or};
+ghost use Rattle.gd_json.specs.Members.{optional_as};
+ghost use Rattle.gd_json.specs.Items.{IsKnown};
 ghost use Rattle.gd_json.specs.Links.{parent_of_first};
 ghost use Rattle.gd_json.specs.Lists.{children_at, name_under, children_data, next_link, IsWritableList};
 

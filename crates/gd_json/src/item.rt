@@ -1,12 +1,12 @@
 //! Reading an item.
-ghost use Rattle.std.specs.Prelude.{◌≡◌, Some, cond, nat_eq, codes};
+ghost use Rattle.std.specs.Prelude.{◌≡◌, None, Some, cond, IfOk, nat_eq, codes};
 ghost use Rattle.serde_json.specs.Find.{get};
 ghost use Rattle.serde_json.specs.View.{view};
 ghost use Rattle.gd_json.specs.Bodies.{body};
 ghost use Rattle.gd_json.specs.Faults.{Gives, ok_or};
 ghost use Rattle.gd_json.specs.Members.{text_as, optional_as};
 ghost use Rattle.gd_json.specs.Numbers.{item_id_of};
-ghost use Rattle.gd_json.specs.Items.{drive_of, may_name, name_for, digest_of_text, reference_at, parent_at, digest_at, file_kind, file_at, folder_at, kind_at, deleted_at, living_at, item_at};
+ghost use Rattle.gd_json.specs.Items.{id_in, path_in, tag_or_empty, drive_of, may_name, name_for, digest_of_text, reference_at, parent_at, digest_at, file_kind, file_at, folder_at, kind_at, deleted_at, living_at, item_at};
 
 use crate::fault::{JsonFault, Member};
 use crate::member::{
@@ -34,14 +34,14 @@ pub fn needed_id(value: &Value, name: &str, member: Member) -> Result<ItemId, Js
     item_id_of(text).ok_or(JsonFault::BadMember(member))
 }
 
-/// There is one drive. A parent on another one is none.
-fn check_drive(value: &Value) -> Result<(), JsonFault>
-    ensures { Gives (λ _. Some (codes "gd1")) result (optional_as Member.DriveId drive_of (get (codes "driveId") (view value.now))) }
+/// Whether the drive is told. There is one, and a parent on another one is none.
+fn tells_drive(value: &Value) -> Result<bool, JsonFault>
+    ensures { Gives (λ told. cond told (Some (codes "gd1")) None) result (optional_as Member.DriveId drive_of (get (codes "driveId") (view value.now))) }
 {
     match value.get("driveId") {
-        None => Ok(()),
+        None => Ok(false),
         Some(found) => match found.as_str() {
-            Some(text) if text == "gd1" => Ok(()),
+            Some(text) if text == "gd1" => Ok(true),
             _ => Err(JsonFault::BadMember(Member::DriveId)),
         },
     }
@@ -52,7 +52,7 @@ fn reference_of(alloc: Global, value: &Value) -> Result<Reference, JsonFault>
     ensures { Gives (λ x. x) result (reference_at (view value.now)) }
 {
     let reference = object(value, Member::ParentReference)?;
-    check_drive(reference)?;
+    tells_drive(reference)?;
     let id = needed_id(reference, "id", Member::ParentId)?;
     let path = optional_text(alloc, reference, "path", Member::ParentPath)?;
     Ok(Reference { id, path })

@@ -1,9 +1,9 @@
 //! Links. The front of a link is made in one place, for writing and for reading.
 ghost use Rattle.std.specs.Prelude.{◌≡◌, ◌++◌, codes, IfOk, option_map};
 ghost use Rattle.std.specs.Fmt.{decimal};
+ghost use Rattle.gd_names.specs.Escapes.{unescaped};
 ghost use Rattle.gd_json.specs.Faults.{Gives, ok_or};
-ghost use Rattle.gd_json.specs.Bases.{is_letter_or_digit};
-ghost use Rattle.gd_json.specs.Links.{past, delta_front, is_token, delta_link, token_of_link, children_front, children_link, name_of_link, upload_front, upload_link, session_of_link};
+ghost use Rattle.gd_json.specs.Links.{past, delta_front, is_token_byte, is_token, token_in, delta_link, token_of_link, children_front, children_link, name_of_link, upload_front, upload_link, session_of_link};
 
 use crate::fault::{JsonFault, Member};
 use crate::number::{id_text, number_of};
@@ -33,8 +33,9 @@ fn delta_front(alloc: Global, wire: &Wire) -> Result<Text, NoMemory>
     Ok(Text::from_string(text))
 }
 
+#[tactic(auto, unfolding(crate::specs::Links::is_token_byte))]
 fn is_token_byte(byte: u8) -> bool
-    ensures { result ≡ (is_letter_or_digit byte || nat_eq byte 46) }
+    ensures { result ≡ is_token_byte byte }
 {
     matches!(byte, b'0'..=b'9' | b'A'..=b'Z' | b'a'..=b'z' | b'.')
 }

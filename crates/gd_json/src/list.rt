@@ -1,10 +1,12 @@
 //! The items of lists and pages.
-ghost use Rattle.std.specs.Prelude.{◌≡◌, IfOk, OnOk, All};
+ghost use Rattle.std.specs.Prelude.{◌≡◌, IfOk, All, codes};
 ghost use Rattle.std.specs.Result.{result_ok};
-ghost use Rattle.serde_json.specs.Data.{no_items, array};
+ghost use Rattle.serde_json.specs.Data.{no_items};
+ghost use Rattle.serde_json.specs.Find.{get};
 ghost use Rattle.serde_json.specs.View.{view, items_view, members_view};
 ghost use Rattle.gd_json.specs.Faults.{Gives, ok_or};
 ghost use Rattle.gd_json.specs.Items.{item_at, item_data, IsKnown};
+ghost use Rattle.gd_json.specs.Members.{items_as};
 ghost use Rattle.gd_json.specs.Lists.{items_in, value_members};
 ghost use Rattle.gd_json.specs.Writing.{listed};
 

@@ -1,12 +1,12 @@
 //! The members of a value, each read and put by one function.
-ghost use Rattle.std.specs.Prelude.{◌≡◌, OnOk, option_map};
-ghost use Rattle.serde_json.specs.Data.{Data, put, string, number, unsigned};
+ghost use Rattle.std.specs.Prelude.{◌≡◌, Some, IfOk, OnOk, option_map};
+ghost use Rattle.serde_json.specs.Data.{put, string, object, no_members};
 ghost use Rattle.serde_json.specs.Find.{get, as_str, as_array, as_bool};
 ghost use Rattle.serde_json.specs.View.{view, items_view, members_view};
 ghost use Rattle.gd_json.specs.Faults.{Gives};
 ghost use Rattle.gd_json.specs.Values.{number_of, object_of};
 ghost use Rattle.gd_json.specs.Members.{needed, optional};
-ghost use Rattle.gd_json.specs.Writing.{put_optional};
+ghost use Rattle.gd_json.specs.Writing.{put_optional, only};
 
 use crate::fault::{JsonFault, Member};
 use gd_names::{NoMemory, Text};

@@ -1,6 +1,5 @@
 //! Numbers and ids in texts.
-ghost use Rattle.std.specs.Prelude.{◌≡◌, ◌++◌, codes, IfOk};
-ghost use Rattle.std.specs.Fmt.{decimal};
+ghost use Rattle.std.specs.Prelude.{◌≡◌, nat_eq, slice_index, IfOk};
 ghost use Rattle.gd_json.specs.Numbers.{number_of_text, expected_of_text, item_id_of, id_written};
 
 use gd_item::ItemId;
@@ -16,10 +15,19 @@ pub fn number_of(digits: &[u8]) -> Option<u64>
         Ok(text) => text,
         Err(_) => return None,
     };
-    if digits.starts_with(b"+") {
+    if begins_with_plus(digits) {
         return None;
     }
-    text.parse::<u64>().ok()
+    match text.parse::<u64>() {
+        Ok(number) => Some(number),
+        Err(_) => None,
+    }
+}
+
+fn begins_with_plus(text: &[u8]) -> bool
+    ensures { result ≡ nat_eq (slice_index text.now 0) 43 }
+{
+    matches!(text, [b'+', ..])
 }
 
 /// The byte with which a range begins that has no end.

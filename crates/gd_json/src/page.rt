@@ -1,10 +1,12 @@
 //! A page of the feed of changes.
-ghost use Rattle.std.specs.Prelude.{◌≡◌, IfOk, OnOk, All, codes};
+ghost use Rattle.std.specs.Prelude.{◌≡◌, Some, IfOk, OnOk, All, codes};
 ghost use Rattle.serde_json.specs.Find.{get};
 ghost use Rattle.serde_json.specs.View.{view, members_view};
 ghost use Rattle.serde_json.specs.Written.{compact_text};
 ghost use Rattle.gd_json.specs.Bodies.{body, JsonBody};
 ghost use Rattle.gd_json.specs.Faults.{Gives};
+ghost use Rattle.gd_json.specs.Members.{text_as};
+ghost use Rattle.gd_json.specs.Links.{token_of_link};
 ghost use Rattle.gd_json.specs.Items.{IsKnown};
 ghost use Rattle.gd_json.specs.Lists.{link_at, page_at, put_link, page_data, IsWritablePage};
 

@@ -6,6 +6,8 @@ ghost use Rattle.serde_json.specs.Written.{compact_text};
 ghost use Rattle.gd_json.specs.Bodies.{body, JsonBody};
 ghost use Rattle.gd_json.specs.Faults.{Gives, ok_or};
 ghost use Rattle.gd_json.specs.Items.{id_data};
+ghost use Rattle.gd_json.specs.Members.{optional_as};
+ghost use Rattle.gd_json.specs.Numbers.{item_id_of};
 ghost use Rattle.gd_json.specs.Values.{object_of};
 ghost use Rattle.gd_json.specs.Writing.{put_optional, only};
 ghost use Rattle.gd_json.specs.Changes.{new_parent_at, patch_at, patch_data, IsWritablePatch};
@@ -14,7 +16,7 @@ use crate::fault::{JsonFault, Member};
 use crate::member::{object, optional_text, put_optional_text, put_value};
 use crate::number::item_id_of;
 use crate::text::{parse, print};
-use crate::written::put_id;
+use crate::written::{known_parent, put_id};
 use gd_item::ItemId;
 use gd_names::{Bytes, NoMemory, Text};
 use serde_json::{Map, Value};
@@ -29,7 +31,7 @@ pub struct PatchBody {
 
 /// A body without a member that has to be there: a text that is no object is no such body.
 pub fn object_or_none(value: &Value) -> Result<&Value, JsonFault>
-    ensures { Gives (λ v. view v.now) result (ok_or NotJson (object_of (view value.now))) }
+    ensures { Gives (λ v. view v.now) result (ok_or JsonFault.NotJson (object_of (view value.now))) }
 {
     if value.is_object() {
         Ok(value)
@@ -115,6 +117,7 @@ pub fn write_patch(alloc: Global, body: &PatchBody) -> Result<Bytes, NoMemory>
     ensures text { IfOk result (λ b. b ≡ compact_text (patch_data body.now)) }
     ensures read_again { IfOk result (λ b. IsWritablePatch body.now → JsonBody patch_at body.now b) }
 {
+    known_parent(body.parent);
     let value = patch_value(alloc, body)?;
     print(alloc, &value)
 }

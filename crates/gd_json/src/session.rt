@@ -1,5 +1,5 @@
 //! An upload session, and its status.
-ghost use Rattle.std.specs.Prelude.{◌≡◌, ◌++◌, codes, IfOk, OnOk, option_map};
+ghost use Rattle.std.specs.Prelude.{◌≡◌, ℕ, ◌<◌, ◌^◌, ◌++◌, Some, codes, IfOk, OnOk, option_map};
 ghost use Rattle.std.specs.Fmt.{decimal};
 ghost use Rattle.serde_json.specs.Data.{string, item, no_items, array};
 ghost use Rattle.serde_json.specs.Find.{get};
@@ -18,6 +18,7 @@ use crate::member::{needed_array, put_text, put_value, text_value};
 use crate::number::expected_of;
 use crate::text::{parse, print};
 use crate::wire::Wire;
+use crate::written::known_number;
 use gd_names::{Bytes, NoMemory};
 use serde_json::{Map, Value};
 use std::alloc::Global;
@@ -121,12 +122,22 @@ fn session_value(alloc: Global, body: &SessionBody, wire: &Wire) -> Result<Value
     Ok(Value::Object(map))
 }
 
+fn known_session(session: Option<u64>)
+    ensures { (n : ℕ) → session ≡ Some n → n < 2 ^ 64 }
+{
+    match session {
+        Some(number) => known_number(number),
+        None => {}
+    }
+}
+
 /// Writes a session, or its status.
 pub fn write_session(alloc: Global, body: &SessionBody, wire: &Wire) -> Result<Bytes, NoMemory>
     ensures text { IfOk result (λ b. b ≡ compact_text (session_data wire.now.base body.now)) }
     ensures read_again { IfOk result (λ b. JsonBody (session_at wire.now.base) body.now b) }
 {
-    let _known = *body;
+    known_number(body.expected);
+    known_session(body.session);
     let value = session_value(alloc, body, wire)?;
     print(alloc, &value)
 }

@@ -1,8 +1,7 @@
 //! Between a text and its value. `serde_json` does not promise which of its two faults of syntax a text has, how the
 //! digits of a float are written, nor what its free functions read; so only `Value` is used, and no body has a float.
-ghost use Rattle.std.specs.Prelude.{◌≡◌, ◌⊎◌, ◌≤◌, false, Some, IfOk};
-ghost use Rattle.std.specs.Prelude.{Ok};
-ghost use Rattle.serde_json.specs.Data.{Data, depth};
+ghost use Rattle.std.specs.Prelude.{◌≡◌, ◌≤◌, false, Ok, IfOk};
+ghost use Rattle.serde_json.specs.Data.{depth};
 ghost use Rattle.serde_json.specs.View.{view};
 ghost use Rattle.serde_json.specs.Written.{compact_text, has_float};
 ghost use Rattle.gd_json.specs.Bodies.{body};

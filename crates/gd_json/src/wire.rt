@@ -1,4 +1,5 @@
-ghost use Rattle.std.specs.Prelude.{◌≡◌, true, false, IfOk, IsErrOf};
+ghost use Rattle.std.specs.Prelude.{◌≡◌, slice_index, true, false, IfOk, IsErrOf};
+ghost use Rattle.gd_names.specs.Escapes.{is_between};
 ghost use Rattle.gd_json.specs.Bases.{is_host_byte, is_port, is_authority, is_base};
 
 use gd_names::{Text, TextFault};
@@ -30,13 +31,23 @@ fn is_host_byte(byte: u8) -> bool
 fn is_port(text: &[u8]) -> bool
     ensures { result ≡ is_port text.now }
 {
-    if !matches!(text, [b'1'..=b'9', ..]) {
+    if !begins_with_count(text) {
         return false;
     }
-    match str::from_utf8(text) {
-        Ok(digits) => digits.parse::<u16>().is_ok(),
+    let digits = match str::from_utf8(text) {
+        Ok(digits) => digits,
+        Err(_) => return false,
+    };
+    match digits.parse::<u16>() {
+        Ok(_) => true,
         Err(_) => false,
     }
+}
+
+fn begins_with_count(text: &[u8]) -> bool
+    ensures { result ≡ is_between 49 57 (slice_index text.now 0) }
+{
+    matches!(text, [b'1'..=b'9', ..])
 }
 
 #[tactic(auto, unfolding(crate::specs::Bases::is_authority))]

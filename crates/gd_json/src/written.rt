@@ -1,12 +1,13 @@
 //! Writing an item.
-ghost use Rattle.std.specs.Prelude.{◌≡◌, codes, length, IfOk, OnOk, option_map};
+ghost use Rattle.std.specs.Prelude.{◌≡◌, ◌<◌, ◌^◌, [], Some, codes, length, IfOk, OnOk, option_map};
+ghost use Rattle.gd_item.specs.declared.id.ItemId.{ItemId};
 ghost use Rattle.hex.specs.Hex.{IsBytes};
-ghost use Rattle.serde_json.specs.Data.{put, string, number, unsigned, object};
+ghost use Rattle.serde_json.specs.Data.{put, string};
 ghost use Rattle.serde_json.specs.View.{view, members_view};
 ghost use Rattle.serde_json.specs.Written.{compact_text};
 ghost use Rattle.gd_json.specs.Bodies.{JsonBody};
-ghost use Rattle.gd_json.specs.Writing.{put_optional, only};
-ghost use Rattle.gd_json.specs.Items.{item_at, digest_text, id_data, parent_data, put_parent, kind_name, kind_data, put_root, common_members, tag_data, living_members, item_data, IsKnownKind, IsKnown, IsWritable};
+ghost use Rattle.gd_json.specs.Writing.{put_optional};
+ghost use Rattle.gd_json.specs.Items.{item_at, digest_text, id_data, parent_data, reference_data, kind_name, kind_data, root_data, common_members, tag_data, living_members, item_data, IsKnownKind, IsKnown, IsWritable};
 
 use crate::member::{empty, only, put_optional_text, put_text, put_value, text_value};
 use crate::number::id_text;
@@ -39,7 +40,7 @@ fn put_parent(
     parent: Option<ItemId>,
     path: &Option<Text>,
 ) -> Result<(), NoMemory>
-    ensures { OnOk result (members_view map.new.entries ≡ put_parent parent path.now (members_view map.old.entries)) }
+    ensures { OnOk result (members_view map.new.entries ≡ put_optional (codes "parentReference") (reference_data parent path.now) (members_view map.old.entries)) }
 {
     match parent {
         None => Ok(()),
@@ -113,7 +114,7 @@ fn put_ctag(
 }
 
 fn put_root(alloc: Global, map: &mut Map<String, Value>, id: ItemId) -> Result<(), NoMemory>
-    ensures { OnOk result (members_view map.new.entries ≡ put_root id (members_view map.old.entries)) }
+    ensures { OnOk result (members_view map.new.entries ≡ put_optional (codes "root") (root_data id) (members_view map.old.entries)) }
 {
     if id.0 == 1 {
         put_value(alloc, map, "root", empty(alloc))?;
@@ -166,13 +167,27 @@ fn known_kind(kind: &Kind)
     }
 }
 
+pub fn known_number(number: u64)
+    ensures { number < 2 ^ 64 }
+{
+}
+
+pub fn known_parent(parent: Option<ItemId>)
+    ensures { (id : ItemId) → parent ≡ Some id → id.0 < 2 ^ 64 }
+{
+    match parent {
+        Some(id) => known_number(id.0),
+        None => {}
+    }
+}
+
 /// What the types say of an item: it takes no step.
 pub fn known_item(item: &Item)
     ensures { IsKnown item.now }
 {
     known_kind(&item.kind);
-    let _id = item.id;
-    let _parent = item.parent;
+    known_number(item.id.0);
+    known_parent(item.parent);
 }
 
 /// Writes an item.
