@@ -1,8 +1,9 @@
 -- The other bodies: what is written nests little, and is read again.
-use Rattle.std.proofs.Common.{◌≡◌, ℕ, suc, ◌<◌, ◌≤◌, ◌^◌, Bool, true, false, List, [], ◌∷◌, ◌++◌, Option, Some, None, Ok, All, refl, sym, ap, subst, ◌∙◌, arith, lit≤}
-use Rattle.std.specs.Prelude.{codes, option_map, IfSome}
+use Rattle.std.proofs.Common.{◌≡◌, ℕ, suc, ◌<◌, ◌≤◌, ◌^◌, Bool, true, false, List, [], ◌∷◌, ◌++◌, Option, Some, None, Result, Ok, Err, All, refl, sym, ap, subst, ◌∙◌, arith, lit≤}
+use Rattle.std.specs.Prelude.{codes, option_map, IfSome, IfOk}
+use Rattle.std.proofs.Math.Nat.{le_trans}
 use Rattle.std.specs.Fmt.{decimal}
-use Rattle.serde_json.specs.Data.{Data, object, string, no_items, no_members}
+use Rattle.serde_json.specs.Data.{Data, object, array, string, no_items, no_members, depth}
 use Rattle.gd_names.specs.Escapes.{IsSegmentName}
 use Rattle.gd_names.specs.declared.conflict.Conflict.{Conflict}
 use Rattle.gd_names.specs.declared.conflict.Conflict.TheVariants.{Fail, Replace, Rename}
@@ -18,6 +19,9 @@ use Rattle.gd_json.specs.declared.session.SessionBody.{SessionBody}
 use Rattle.gd_json.specs.declared.folder.FolderBody.{FolderBody}
 use Rattle.gd_json.specs.declared.patch.PatchBody.{PatchBody}
 use Rattle.gd_json.specs.declared.begin.BeginBody.{BeginBody}
+use Rattle.serde_json.proofs.OnLiterals.{serde_json_on_literals}
+use Rattle.gd_json.specs.declared.fault.JsonFault.TheVariants.{NotJson}
+use Rattle.gd_json.specs.Bodies.{body, JsonBody, or_empty}
 use Rattle.gd_json.specs.Changes.{behaviour_text, behaviour_of, behaviour_at, folder_body_at, folder_data, new_parent_at, patch_at, patch_data, begin_at, begin_data}
 use Rattle.gd_json.specs.Errors.{code_of, error_at, error_data}
 use Rattle.gd_json.specs.Items.{item_data, IsKnown, IsWritable}
@@ -29,6 +33,7 @@ use Rattle.gd_json.specs.Writing.{put_optional, listed}
 use Rattle.gd_json.proofs.Ids.{id_again, expected_again}
 use Rattle.gd_json.proofs.LinksAgain.{token_again, name_again, session_again}
 use Rattle.gd_json.proofs.ListLoop.{items_again}
+use Rattle.gd_json.proofs.Through.{any, again, map_ok}
 use Rattle.gd_json.proofs.Plain.{IsPlain, ArePlain, string_plain, none_plain, put_plain, put_optional_plain, object_plain, only_plain, listed_plain, array_plain}
 use Rattle.gd_json.proofs.PlainItem.{item_plain}
 
@@ -101,6 +106,20 @@ begin_by (Some name) behaviour defer = rw (behaviour_again behaviour) refl
 pub begin_again : (v : BeginBody) → begin_at (begin_data v) ≡ Ok v
 begin_again v = begin_by v.name v.behaviour v.defer
 
+nothing_read : (d : Data) → body any [] ≡ Ok d → ⊥
+unfolding serde_json_on_literals
+nothing_read d e = let none : body any [] ≡ Err NotJson = refl in cc
+
+some_text : (b : List ℕ) (d : Data) → body any b ≡ Ok d → b ≡ or_empty b
+some_text [] d e = absurd (nothing_read d e)
+some_text (x ∷ b) d e = refl
+
+pub begin_gives : {E : Type 0} (v : BeginBody) (d : Data) (r : Result (List ℕ) E) → d ≡ begin_data v → IfOk r (λ b. depth d ≤ 127 → body any b ≡ Ok d) → IfOk r (λ b. JsonBody begin_at v (or_empty b))
+begin_gives v d r same back =
+    let shallow : depth d ≤ 127 = rw same (le_trans (begin_plain v).shallow (lit≤ tt)) in
+    map_ok (λ b. depth d ≤ 127 → body any b ≡ Ok d) (λ b. JsonBody begin_at v (or_empty b)) r
+    (λ b h. subst (λ (text : List ℕ). body begin_at text ≡ Ok v) (some_text b d (h shallow)) (again begin_at v b 2 d (begin_data v) same (begin_plain v) (lit≤ tt) h (begin_again v))) back
+
 -- ---- sessions
 
 session_plain_by : (base : List ℕ) (session : Option ℕ) (expected : ℕ) → IsPlain 2 (session_data base (record { session = session; expected = expected }))
@@ -122,7 +141,7 @@ session_body_again base v small next = session_by base v.session v.expected smal
 -- ---- lists and pages
 
 value_plain : (items : List Item) → ArePlain 4 (value_members items)
-value_plain items = put_plain 4 _ _ _ (array_plain 3 _ (listed_plain 3 item_data items item_plain)) (none_plain 4)
+value_plain items = put_plain 4 (codes "value") (array (listed item_data items no_items)) no_members (array_plain 3 _ (listed_plain 3 item_data items item_plain)) (none_plain 4)
 
 next_plain : (n : ℕ) (link : Option (List ℕ)) → IfSome (option_map string link) (IsPlain n)
 next_plain n None = tt
@@ -130,7 +149,7 @@ next_plain n (Some text) = string_plain n text
 
 pub children_plain : (base : List ℕ) (v : ChildList) → IsPlain 5 (children_data base v)
 unfolding children_data
-children_plain base v = object_plain 4 _ (put_optional_plain 4 _ _ _ (next_plain 4 _) (value_plain v.items))
+children_plain base v = object_plain 4 _ (put_optional_plain 4 (codes "@odata.nextLink") (option_map string (next_link base (parent_of_first v.items) v.next)) (value_members v.items) (next_plain 4 _) (value_plain v.items))
 
 children_by : (base : List ℕ) (items : List Item) (parent : Option ItemId) (next : Option (List ℕ)) → parent_of_first items ≡ parent → MayGoOn parent next → items_in (listed item_data items no_items) ≡ Some items
     → children_at base (children_data base (record { items = items; next = next })) ≡ Ok (record { items = items; next = next })
@@ -144,8 +163,8 @@ pub children_again : (base : List ℕ) (v : ChildList) → IsWritableList v → 
 children_again base v writable known = children_by base v.items (parent_of_first v.items) v.next refl writable.next (items_again v.items writable.items known)
 
 link_plain : (base : List ℕ) (link : PageLink) (items : List Item) → ArePlain 4 (put_link base link (value_members items))
-link_plain base (Next token) items = put_plain 4 _ _ _ (string_plain 4 _) (value_plain items)
-link_plain base (Delta token) items = put_plain 4 _ _ _ (string_plain 4 _) (value_plain items)
+link_plain base (Next token) items = put_plain 4 (codes "@odata.nextLink") (string (delta_link base token)) (value_members items) (string_plain 4 (delta_link base token)) (value_plain items)
+link_plain base (Delta token) items = put_plain 4 (codes "@odata.deltaLink") (string (delta_link base token)) (value_members items) (string_plain 4 (delta_link base token)) (value_plain items)
 
 pub page_plain : (base : List ℕ) (v : Page) → IsPlain 5 (page_data base v)
 unfolding page_data

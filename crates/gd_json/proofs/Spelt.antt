@@ -5,18 +5,23 @@ use Rattle.std.specs.Cmp.Lexicographic.{bytes_decides}
 use Rattle.std.specs.List.{list_all}
 use Rattle.std.specs.Result.{result_ok, OkIff}
 use Rattle.std.specs.Str.{IsUtf8, IsAscii, all_ascii_digits}
-use Rattle.std.specs.Str.Parse.{digits_value}
-use Rattle.std.proofs.lemmas.Bool.{cases_Bool, and_parts, or_cases, eqb-true, leb-true, lt-ltb, ltb-true, le-leb, ne_eqb, both_ways, false_from_ne_true, cond-true, cond-false}
+use Rattle.std.specs.Str.Parse.{digits_value, ParsesUnsigned}
+use Rattle.std.proofs.lemmas.Bool.{cases_Bool, and_parts, or_cases, eqb-true, eqb-false, leb-true, lt-ltb, ltb-true, le-leb, ne_eqb, both_ways, false_from_ne_true, cond-true, cond-false}
 use Rattle.std.proofs.lemmas.Bool.Decides.{nat_tests}
 use Rattle.std.proofs.lemmas.Fmt.{IsAscii-from_digits}
 use Rattle.std.proofs.lemmas.List.{take-append-drop}
 use Rattle.std.proofs.lemmas.List.Elements.{All-cons, All-nil}
+use Rattle.std.proofs.lemmas.Result.{OkIff-at_ok}
+use Rattle.std.proofs.lemmas.Str.Parse.{parse_plain}
 use Rattle.std.proofs.lemmas.Str.{IsUtf8-from_ascii, IsAscii-append}
 use Rattle.std.proofs.lemmas.Str.Ascii.{IsAscii-from_all, IsAscii-cons}
+use Rattle.serde_json.specs.View.{items_view}
+use Rattle.serde_json.specs.declared.value.Value.{Value}
 use Rattle.gd_names.specs.Escapes.{is_between}
 use Rattle.gd_json.specs.Bases.{is_letter_or_digit, is_host_byte, is_port, is_authority, is_base}
 use Rattle.gd_json.specs.Links.{is_token_byte, is_token}
 use Rattle.gd_json.specs.Numbers.{number_of_text}
+use Rattle.gd_json.specs.Sessions.{expected_in}
 use Rattle.gd_json.proofs.Ids.{own}
 
 abbrev Small : ℕ → Type 0
@@ -32,9 +37,9 @@ between_small low high b less e = let parts = and_parts (nat_le low b) (nat_le b
 letter_small : (b : ℕ) → is_letter_or_digit b ≡ true → b < 128
 letter_small b e =
     ⊎_elim
-    (λ d. between_small 48 57 b (lit≤ tt) d)
-    (λ more. ⊎_elim (λ u. between_small 65 90 b (lit≤ tt) u) (λ l. between_small 97 122 b (lit≤ tt) l) (or_cases (is_between 65 90 b) (is_between 97 122 b) more))
-    (or_cases (is_between 48 57 b) (is_between 65 90 b || is_between 97 122 b) e)
+    (λ more. ⊎_elim (λ d. between_small 48 57 b (lit≤ tt) d) (λ u. between_small 65 90 b (lit≤ tt) u) (or_cases (is_between 48 57 b) (is_between 65 90 b) more))
+    (λ l. between_small 97 122 b (lit≤ tt) l)
+    (or_cases (is_between 48 57 b || is_between 65 90 b) (is_between 97 122 b) e)
 
 equal_small : (n b : ℕ) → n < 128 → nat_eq b n ≡ true → b < 128
 equal_small n b less e = let same : b ≡ n = eqb-true b n e in omega arith
@@ -66,9 +71,9 @@ number_by : (text : List ℕ) (b : Bool) → ((all_ascii_digits text ≡ true) �
     → (not (nat_eq (length text) 0) && all_ascii_digits text && nat_lt (digits_value 10 text) (2 ^ 64)) ≡ b → None ≡ cond b (Some (digits_value 10 text)) None
 number_by text false other e = refl
 number_by text true other e =
-    let one = and_parts (not (nat_eq (length text) 0)) (all_ascii_digits text && nat_lt (digits_value 10 text) (2 ^ 64)) e in
-    let two = and_parts (all_ascii_digits text) (nat_lt (digits_value 10 text) (2 ^ 64)) one.1 in
-    absurd (other (two.0, some_length text one.0, ltb-true (digits_value 10 text) (2 ^ 64) two.1))
+    let one = and_parts (not (nat_eq (length text) 0) && all_ascii_digits text) (nat_lt (digits_value 10 text) (2 ^ 64)) e in
+    let two = and_parts (not (nat_eq (length text) 0)) (all_ascii_digits text) one.0 in
+    absurd (other (two.1, some_length text two.0, ltb-true (digits_value 10 text) (2 ^ 64) one.1))
 
 pub no_number : (text : List ℕ) → ((all_ascii_digits text ≡ true) × (0 < length text) × (digits_value 10 text < 2 ^ 64) → ⊥) → None ≡ number_of_text text
 unfolding number_of_text
@@ -93,14 +98,15 @@ no_plus (b ∷ text) e d = let parts = and_parts _ _ d in let between = and_part
 port_ascii : (text : List ℕ) → is_port text ≡ true → IsAscii text
 unfolding is_port
 port_ascii text e =
-    let one = and_parts (is_between 49 57 (get_or text 0 0)) (all_ascii_digits text && nat_le (digits_value 10 text) 65535) e in
-    digits_ascii text (and_parts (all_ascii_digits text) (nat_le (digits_value 10 text) 65535) one.1).0
+    let one = and_parts (is_between 49 57 (get_or text 0 0) && all_ascii_digits text) (nat_le (digits_value 10 text) 65535) e in
+    digits_ascii text (and_parts (is_between 49 57 (get_or text 0 0)) (all_ascii_digits text) one.0).1
 
 host_small : (b : ℕ) → is_host_byte b ≡ true → b < 128
 host_small b e =
-    ⊎_elim (letter_small b)
-    (λ more. ⊎_elim (equal_small 45 b (lit≤ tt)) (equal_small 46 b (lit≤ tt)) (or_cases (nat_eq b 45) (nat_eq b 46) more))
-    (or_cases (is_letter_or_digit b) (nat_eq b 45 || nat_eq b 46) e)
+    ⊎_elim
+    (λ more. ⊎_elim (letter_small b) (equal_small 45 b (lit≤ tt)) (or_cases (is_letter_or_digit b) (nat_eq b 45) more))
+    (equal_small 46 b (lit≤ tt))
+    (or_cases (is_letter_or_digit b || nat_eq b 45) (nat_eq b 46) e)
 
 authority_by : (b : ℕ) (text : List ℕ) (some colon : Bool) → nat_eq b 58 ≡ colon → (is_authority true text ≡ true → IsAscii text)
     → cond colon (some && is_port text) (is_host_byte b && is_authority true text) ≡ true → IsAscii (b ∷ text)
@@ -132,10 +138,10 @@ port_by : (text : List ℕ) (b : Bool) → ((all_ascii_digits text ≡ true) × 
 unfolding is_port
 port_by text false other e = refl
 port_by text true other e =
-    let one = and_parts (is_between 49 57 (get_or text 0 0)) (all_ascii_digits text && nat_le (digits_value 10 text) 65535) e in
-    let two = and_parts (all_ascii_digits text) (nat_le (digits_value 10 text) 65535) one.1 in
-    let small : digits_value 10 text ≤ 65535 = leb-true (digits_value 10 text) 65535 two.1 in
-    absurd (other (two.0, begun_length text one.0, omega arith))
+    let one = and_parts (is_between 49 57 (get_or text 0 0) && all_ascii_digits text) (nat_le (digits_value 10 text) 65535) e in
+    let two = and_parts (is_between 49 57 (get_or text 0 0)) (all_ascii_digits text) one.0 in
+    let small : digits_value 10 text ≤ 65535 = leb-true (digits_value 10 text) 65535 one.1 in
+    absurd (other (two.1, begun_length text two.0, omega arith))
 
 pub no_port : (text : List ℕ) → ((all_ascii_digits text ≡ true) × (0 < length text) × (digits_value 10 text < 2 ^ 16) → ⊥) → false ≡ is_port text
 no_port text other = port_by text (is_port text) other refl
@@ -145,3 +151,38 @@ no_text_port text other = no_port text (λ h. other (IsUtf8-from_ascii text (dig
 
 pub no_plus_begun : (text : List ℕ) → is_between 49 57 (get_or text 0 0) ≡ true → get_or text 0 0 ≢ 43
 no_plus_begun text begun plus = let parts = and_parts (nat_le 49 (get_or text 0 0)) (nat_le (get_or text 0 0) 57) begun in let low : 49 ≤ get_or text 0 0 = leb-true 49 (get_or text 0 0) parts.0 in omega arith
+
+-- ---- what `parse` answers, of a text that has these bytes
+
+module _ {E : Type 0} (bytes text : List ℕ) (result : Result ℕ E) (same : text ≡ bytes) where
+  plus_apart : nat_eq (get_or bytes 0 0) 43 ≡ false → get_or text 0 0 ≢ 43
+  plus_apart e = subst (λ (xs : List ℕ). get_or xs 0 0 ≢ 43) (sym same) (eqb-false (get_or bytes 0 0) 43 e)
+
+  pub number_parsed : nat_eq (get_or bytes 0 0) 43 ≡ false → ParsesUnsigned 64 10 text result → (n : ℕ) → result ≡ Ok n → Some n ≡ number_of_text bytes
+  number_parsed apart parses n is =
+      let p = OkIff-at_ok result ((all_ascii_digits text ≡ true) × (0 < length text) × (digits_value 10 text < 2 ^ 64)) (digits_value 10 text) n (parse_plain own 64 text result parses (plus_apart apart)) is in
+      subst (λ (xs : List ℕ). Some n ≡ number_of_text xs) same (the_number text n p.0 p.1)
+
+  pub number_refused : nat_eq (get_or bytes 0 0) 43 ≡ false → ParsesUnsigned 64 10 text result → (e : E) → result ≡ Err e → None ≡ number_of_text bytes
+  number_refused apart parses e is =
+      let none = subst (λ (r : Result ℕ E). OkIff r ((all_ascii_digits text ≡ true) × (0 < length text) × (digits_value 10 text < 2 ^ 64)) (digits_value 10 text)) is (parse_plain own 64 text result parses (plus_apart apart)) in
+      subst (λ (xs : List ℕ). None ≡ number_of_text xs) same (no_number text none)
+
+  begun_apart : is_between 49 57 (get_or bytes 0 0) ≡ true → get_or text 0 0 ≢ 43
+  begun_apart e = subst (λ (xs : List ℕ). get_or xs 0 0 ≢ 43) (sym same) (no_plus_begun bytes e)
+
+  pub port_parsed : is_between 49 57 (get_or bytes 0 0) ≡ true → ParsesUnsigned 16 10 text result → (n : ℕ) → result ≡ Ok n → true ≡ is_port bytes
+  port_parsed begun parses n is =
+      let p = OkIff-at_ok result ((all_ascii_digits text ≡ true) × (0 < length text) × (digits_value 10 text < 2 ^ 16)) (digits_value 10 text) n (parse_plain own 16 text result parses (begun_apart begun)) is in
+      subst (λ (xs : List ℕ). true ≡ is_port xs) same (the_port text n (subst (λ (xs : List ℕ). is_between 49 57 (get_or xs 0 0) ≡ true) (sym same) begun) p.0)
+
+  pub port_refused : is_between 49 57 (get_or bytes 0 0) ≡ true → ParsesUnsigned 16 10 text result → (e : E) → result ≡ Err e → false ≡ is_port bytes
+  port_refused begun parses e is =
+      let none = subst (λ (r : Result ℕ E). OkIff r ((all_ascii_digits text ≡ true) × (0 < length text) × (digits_value 10 text < 2 ^ 16)) (digits_value 10 text)) is (parse_plain own 16 text result parses (begun_apart begun)) in
+      subst (λ (xs : List ℕ). false ≡ is_port xs) same (no_port text none)
+
+-- a list of no range, or of several, tells of none
+pub other_count : (vs : List Value) → (length vs ≡ 1 → ⊥) → expected_in (items_view vs) ≡ None
+other_count [] other = refl
+other_count (v ∷ []) other = absurd (other (omega arith))
+other_count (v ∷ w ∷ vs) other = refl

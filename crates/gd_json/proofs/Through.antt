@@ -1,5 +1,6 @@
 -- From a text to its value, and from a written value to its text and back.
 use Rattle.std.proofs.Common.{◌≡◌, ℕ, ◌≤◌, Bool, true, false, List, Option, Some, None, Result, Ok, Err, refl, sym, ap, subst, ◌∙◌, ⊎_elim, arith}
+use Rattle.std.specs.Prelude.{IfOk}
 use Rattle.std.specs.Str.{IsUtf8, is_utf8}
 use Rattle.std.proofs.lemmas.Bool.{cases_Bool}
 use Rattle.std.proofs.lemmas.Str.{is_utf8-from_IsUtf8, IsUtf8-from_is_utf8}
@@ -60,3 +61,22 @@ again at x b n d written same plain low back reads =
 -- and its text is the one
 pub text_is : (b : List ℕ) (n : ℕ) (d written : Data) → d ≡ written → IsPlain n written → (has_float d ≡ false → b ≡ compact_text d) → b ≡ compact_text written
 text_is b n d written same plain text = text (ap has_float same ∙ plain.exact) ∙ ap compact_text same
+
+-- a fact of what a call gives, from another one
+pub map_ok : {T E : Type 0} (P Q : T → Type 0) (r : Result T E) → ((x : T) → P x → Q x) → IfOk r P → IfOk r Q
+map_ok P Q (Ok x) f h = f x h
+map_ok P Q (Err e) f h = tt
+
+pub gives_again : {A E : Type 0} (at : Data → Result A JsonFault) (x : A) (n : ℕ) (d written : Data) (r : Result (List ℕ) E) → d ≡ written → IsPlain n written → n ≤ 127
+    → at written ≡ Ok x → IfOk r (λ b. depth d ≤ 127 → body any b ≡ Ok d) → IfOk r (JsonBody at x)
+gives_again at x n d written r same plain low reads back =
+    map_ok (λ b. depth d ≤ 127 → body any b ≡ Ok d) (JsonBody at x) r (λ b h. again at x b n d written same plain low h reads) back
+
+pub gives_again_if : {A E : Type 0} (P : Type 0) (at : Data → Result A JsonFault) (x : A) (n : ℕ) (d written : Data) (r : Result (List ℕ) E) → d ≡ written → IsPlain n written → n ≤ 127
+    → (P → at written ≡ Ok x) → IfOk r (λ b. depth d ≤ 127 → body any b ≡ Ok d) → IfOk r (λ b. P → JsonBody at x b)
+gives_again_if P at x n d written r same plain low reads back =
+    map_ok (λ b. depth d ≤ 127 → body any b ≡ Ok d) (λ b. P → JsonBody at x b) r (λ b h p. again at x b n d written same plain low h (reads p)) back
+
+pub gives_text : {E : Type 0} (n : ℕ) (d written : Data) (r : Result (List ℕ) E) → d ≡ written → IsPlain n written → IfOk r (λ b. has_float d ≡ false → b ≡ compact_text d) → IfOk r (λ b. b ≡ compact_text written)
+gives_text n d written r same plain text =
+    map_ok (λ b. has_float d ≡ false → b ≡ compact_text d) (λ b. b ≡ compact_text written) r (λ b h. text_is b n d written same plain h) text

@@ -36,7 +36,7 @@ token_of_link base text = option_and_then token_in (past (delta_front base) text
 -- ---- the children of a folder past a name
 
 unfoldable pub children_front : List ℕ → ItemId → List ℕ
-children_front base id = base ++ codes "/v1.0/me/drive/items/" ++ id_written id ++ codes "/children?$skiptoken="
+children_front base id = ((base ++ codes "/v1.0/me/drive/items/") ++ id_written id) ++ codes "/children?$skiptoken="
 
 abbrev pub children_link : List ℕ → ItemId → List ℕ → List ℕ
 children_link base id name = children_front base id ++ escaped name

@@ -1,6 +1,6 @@
 //! Links. The front of a link is made in one place, for writing and for reading.
-ghost use Rattle.std.specs.Prelude.{◌≡◌, ◌++◌, codes, IfOk, option_map};
-ghost use Rattle.std.specs.Fmt.{decimal};
+ghost use Rattle.std.specs.Prelude.{◌≡◌, ◌++◌, IfOk, option_map};
+
 ghost use Rattle.gd_names.specs.Escapes.{unescaped};
 ghost use Rattle.gd_json.specs.Faults.{Gives, ok_or};
 ghost use Rattle.gd_json.specs.Links.{past, delta_front, is_token_byte, is_token, token_in, delta_link, token_of_link, children_front, children_link, name_of_link, upload_front, upload_link, session_of_link};
@@ -28,9 +28,7 @@ fn past<'t>(front: &[u8], text: &'t [u8]) -> Option<&'t [u8]>
 fn delta_front(alloc: Global, wire: &Wire) -> Result<Text, NoMemory>
     ensures { IfOk result (λ t. t ≡ delta_front wire.now.base) }
 {
-    let base = wire.base.as_str();
-    let text = format!(in alloc; "{base}/v1.0/me/drive/root/delta?token=")?;
-    Ok(Text::from_string(text))
+    join(alloc, &wire.base, "/v1.0/me/drive/root/delta?token=")
 }
 
 #[tactic(auto, unfolding(crate::specs::Links::is_token_byte))]
@@ -55,6 +53,7 @@ pub fn delta_link(alloc: Global, wire: &Wire, token: &Text) -> Result<Text, NoMe
 }
 
 /// The token of a link to a page.
+#[tactic(auto, unfolding(crate::specs::Links::token_of_link))]
 pub fn token_of(
     alloc: Global,
     wire: &Wire,
@@ -96,11 +95,10 @@ fn join(alloc: Global, front: &Text, rest: &str) -> Result<Text, NoMemory>
 fn children_front(alloc: Global, wire: &Wire, id: ItemId) -> Result<Text, NoMemory>
     ensures { IfOk result (λ t. t ≡ children_front wire.now.base id) }
 {
-    let base = wire.base.as_str();
     let id = id_text(alloc, id)?;
-    let id = id.as_str();
-    let text = format!(in alloc; "{base}/v1.0/me/drive/items/{id}/children?$skiptoken=")?;
-    Ok(Text::from_string(text))
+    let items = join(alloc, &wire.base, "/v1.0/me/drive/items/")?;
+    let item = join(alloc, &items, id.as_str())?;
+    join(alloc, &item, "/children?$skiptoken=")
 }
 
 pub fn children_link(
@@ -142,9 +140,7 @@ fn name_in(alloc: Global, segment: &[u8]) -> Result<Text, JsonFault>
 fn upload_front(alloc: Global, wire: &Wire) -> Result<Text, NoMemory>
     ensures { IfOk result (λ t. t ≡ upload_front wire.now.base) }
 {
-    let base = wire.base.as_str();
-    let text = format!(in alloc; "{base}/v1.0/upload/")?;
-    Ok(Text::from_string(text))
+    join(alloc, &wire.base, "/v1.0/upload/")
 }
 
 pub fn upload_link(alloc: Global, wire: &Wire, session: u64) -> Result<Text, NoMemory>

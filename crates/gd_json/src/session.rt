@@ -31,6 +31,7 @@ pub struct SessionBody {
     pub expected: u64,
 }
 
+#[tactic(auto, using(crate::proofs::Spelt::other_count))]
 fn expected_in(ranges: &[Value]) -> Option<u64>
     ensures { result ≡ expected_in (items_view ranges.now) }
 {

@@ -5,4 +5,4 @@ pub returns-in-Ok : goal.returns-in-Ok
 returns-in-Ok c = body_read c.args.bytes.now _ c.in-Ok.ensures.ok.0 c.in-Ok.ensures.ok.1
 
 pub returns-else-is_memory : goal.returns-else-is_memory
-returns-else-is_memory c = body_none c.args.bytes.now ?
+returns-else-is_memory c = body_none c.args.bytes.now (c.in-Err.ensures.err (λ memory. c.if-is_memory.ensures.1 memory))
