@@ -33,7 +33,7 @@ use Rattle.gd_json.specs.Writing.{put_optional, listed}
 use Rattle.gd_json.proofs.Ids.{id_again, expected_again}
 use Rattle.gd_json.proofs.LinksAgain.{token_again, name_again, session_again}
 use Rattle.gd_json.proofs.ListLoop.{items_again}
-use Rattle.gd_json.proofs.Through.{any, again, map_ok}
+use Rattle.gd_json.proofs.Through.{any, body_none, again, map_ok}
 use Rattle.gd_json.proofs.Plain.{IsPlain, ArePlain, string_plain, none_plain, put_plain, put_optional_plain, object_plain, only_plain, listed_plain, array_plain}
 use Rattle.gd_json.proofs.PlainItem.{item_plain}
 
@@ -108,7 +108,7 @@ begin_again v = begin_by v.name v.behaviour v.defer
 
 nothing_read : (d : Data) → body any [] ≡ Ok d → ⊥
 unfolding serde_json_on_literals
-nothing_read d e = let none : body any [] ≡ Err NotJson = refl in cc
+nothing_read d e = let none : body any [] ≡ Err NotJson = body_none [] (λ _. refl) in cc
 
 some_text : (b : List ℕ) (d : Data) → body any b ≡ Ok d → b ≡ or_empty b
 some_text [] d e = absurd (nothing_read d e)

@@ -56,15 +56,18 @@ fn next_of(
     alloc: Global,
     value: &Value,
     wire: &Wire,
-    parent: Option<ItemId>,
+    items: &List<Item>,
 ) -> Result<Option<Text>, JsonFault>
-    ensures { Gives (λ o. o) result (optional_as Member.NextLink (name_under wire.now.base parent) (get (codes "@odata.nextLink") (view value.now))) }
+    ensures { Gives (λ o. o) result (optional_as Member.NextLink (name_under wire.now.base (parent_of_first items.now)) (get (codes "@odata.nextLink") (view value.now))) }
 {
     match value.get("@odata.nextLink") {
         None => Ok(None),
         Some(found) => match found.as_str() {
             None => Err(JsonFault::BadMember(Member::NextLink)),
-            Some(link) => Ok(Some(name_under(alloc, wire, parent, link)?)),
+            Some(link) => {
+                let parent = parent_of_first(items.as_slice());
+                Ok(Some(name_under(alloc, wire, parent, link)?))
+            }
         },
     }
 }
@@ -74,8 +77,7 @@ fn children_of(alloc: Global, value: &Value, wire: &Wire) -> Result<ChildList, J
     ensures { Gives (λ x. x) result (children_at wire.now.base (view value.now)) }
 {
     let items = value_of(alloc, value)?;
-    let parent = parent_of_first(items.as_slice());
-    let next = next_of(alloc, value, wire, parent)?;
+    let next = next_of(alloc, value, wire, &items)?;
     Ok(ChildList { items, next })
 }
 

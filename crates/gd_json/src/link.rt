@@ -1,6 +1,7 @@
 //! Links. The front of a link is made in one place, for writing and for reading.
 ghost use Rattle.std.specs.Prelude.{◌≡◌, ◌++◌, IfOk, option_map};
 
+ghost use Rattle.std.specs.List.{list_all};
 ghost use Rattle.gd_names.specs.Escapes.{unescaped};
 ghost use Rattle.gd_json.specs.Faults.{Gives, ok_or};
 ghost use Rattle.gd_json.specs.Links.{past, delta_front, is_token_byte, is_token, token_in, delta_link, token_of_link, children_front, children_link, name_of_link, upload_front, upload_link, session_of_link};
@@ -38,11 +39,17 @@ fn is_token_byte(byte: u8) -> bool
     matches!(byte, b'0'..=b'9' | b'A'..=b'Z' | b'a'..=b'z' | b'.')
 }
 
+fn has_token_bytes(text: &[u8]) -> bool
+    ensures { result ≡ list_all is_token_byte text.now }
+{
+    text.iter().all(|byte| is_token_byte(*byte))
+}
+
 #[tactic(auto, unfolding(crate::specs::Links::is_token))]
 fn is_token(token: &[u8]) -> bool
     ensures { result ≡ is_token token.now }
 {
-    !token.is_empty() && token.iter().all(|byte| is_token_byte(*byte))
+    !token.is_empty() && has_token_bytes(token)
 }
 
 pub fn delta_link(alloc: Global, wire: &Wire, token: &Text) -> Result<Text, NoMemory>

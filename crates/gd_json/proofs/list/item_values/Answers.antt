@@ -5,7 +5,7 @@ use Rattle.gd_json.proofs.list.item_values.Goals as goal
 pub loop-item-preserved : goal.loop-item-preserved
 loop-item-preserved c =
     let next = listed_drop c.args.items.now c.loop-item.item-index c.item-item.result c.loop-item-test.true c.item-item.is in
-    rw (c.in_ok-push.ensures.ok, add-one) (record {
+    rw (c.in_ok-push.ensures.items, add-one) (record {
       values = before_more _ _ _ ∙ rw c.in_ok-value.ensures (rw next at c.loop-item.invariant.values);
       known = λ more. c.loop-item.invariant.known (known_drop c.args.items.now c.loop-item.item-index c.item-item.result c.loop-item-test.true c.item-item.is c.known_item.ensures more);
     })
