@@ -1,9 +1,8 @@
 -- An item is read as it was written.
-use Rattle.std.proofs.Common.{◌≡◌, ℕ, ◌<◌, ◌^◌, Bool, true, false, List, [], ◌∷◌, length, Option, Some, None, Ok, cond, refl, sym, ap, subst, ◌∙◌, ⊎_elim, arith, lit≤}
-use Rattle.std.specs.Prelude.{codes, nat_eq, option_map}
-use Rattle.std.proofs.lemmas.Bool.{cases_Bool, cond-true, cond-false, eq-eqb}
+use Rattle.std.proofs.Common.{◌≡◌, ℕ, ◌<◌, ◌^◌, Bool, true, false, List, [], length, Option, Some, None, Ok, refl, sym, subst}
+use Rattle.std.specs.Prelude.{nat_eq, option_map}
+use Rattle.std.proofs.lemmas.Bool.{eq-eqb}
 use Rattle.hex.specs.Hex.{IsBytes}
-use Rattle.serde_json.specs.Data.{Data, object, string}
 use Rattle.serde_json.specs.Find.{as_str}
 use Rattle.gd_item.specs.declared.id.ItemId.{ItemId}
 use Rattle.gd_item.specs.declared.digest.Digest.{Digest}
@@ -14,11 +13,10 @@ use Rattle.gd_item.specs.declared.item.Kind.TheVariants.{Folder, File, Bare, Del
 use Rattle.gd_item.specs.Tags.{tag_of}
 use Rattle.gd_json.specs.declared.fault.Member.TheVariants as of
 use Rattle.gd_json.specs.declared.item.Reference.{Reference}
-use Rattle.gd_json.specs.Faults.{◌>>=◌}
 use Rattle.gd_json.specs.Values.{object_of}
 use Rattle.gd_json.specs.Members.{optional}
 use Rattle.gd_json.specs.Numbers.{item_id_of, id_written}
-use Rattle.gd_json.specs.Items.{may_name, reference_at, parent_at, digest_at, file_at, folder_at, deleted_at, living_at, item_at, id_in, path_in, parent_data, reference_data, kind_data, root_data, tag_data, common_members, living_members, item_data, IsPlaced, IsLiving, IsKnownKind, IsKnown, IsWritableAs, IsWritable}
+use Rattle.gd_json.specs.Items.{reference_at, parent_at, digest_at, file_at, folder_at, deleted_at, living_at, item_at, id_in, path_in, parent_data, reference_data, kind_data, root_data, tag_data, item_data, IsPlaced, IsLiving, IsKnownKind, IsKnown, IsWritableAs, IsWritable}
 use Rattle.gd_json.proofs.Found.{get_put, get_put_optional, or_nothing}
 use Rattle.gd_json.proofs.Ids.{id_again, digest_again}
 

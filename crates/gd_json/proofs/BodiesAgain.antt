@@ -1,10 +1,8 @@
 -- The other bodies: what is written nests little, and is read again.
-use Rattle.std.proofs.Common.{◌≡◌, ℕ, suc, ◌<◌, ◌≤◌, ◌^◌, Bool, true, false, List, [], ◌∷◌, ◌++◌, Option, Some, None, Result, Ok, Err, All, refl, sym, ap, subst, ◌∙◌, arith, lit≤}
+use Rattle.std.proofs.Common.{◌≡◌, ℕ, ◌<◌, ◌≤◌, ◌^◌, Bool, true, List, [], ◌∷◌, Option, Some, None, Result, Ok, Err, All, refl, subst, lit≤}
 use Rattle.std.specs.Prelude.{codes, option_map, IfSome, IfOk}
 use Rattle.std.proofs.Math.Nat.{le_trans}
-use Rattle.std.specs.Fmt.{decimal}
-use Rattle.serde_json.specs.Data.{Data, object, array, string, no_items, no_members, depth}
-use Rattle.gd_names.specs.Escapes.{IsSegmentName}
+use Rattle.serde_json.specs.Data.{Data, array, string, no_items, no_members, depth}
 use Rattle.gd_names.specs.declared.conflict.Conflict.{Conflict}
 use Rattle.gd_names.specs.declared.conflict.Conflict.TheVariants.{Fail, Replace, Rename}
 use Rattle.gd_item.specs.declared.id.ItemId.{ItemId}
@@ -24,17 +22,17 @@ use Rattle.gd_json.specs.declared.fault.JsonFault.TheVariants.{NotJson}
 use Rattle.gd_json.specs.Bodies.{body, JsonBody, or_empty}
 use Rattle.gd_json.specs.Changes.{behaviour_text, behaviour_of, behaviour_at, folder_body_at, folder_data, new_parent_at, patch_at, patch_data, begin_at, begin_data}
 use Rattle.gd_json.specs.Errors.{code_of, error_at, error_data}
-use Rattle.gd_json.specs.Items.{item_data, IsKnown, IsWritable}
+use Rattle.gd_json.specs.Items.{item_data, IsKnown}
 use Rattle.gd_json.specs.Links.{is_token, delta_link, parent_of_first}
 use Rattle.gd_json.specs.Lists.{items_in, children_at, children_data, next_link, page_at, page_data, put_link, token_of, value_members, MayGoOn, IsWritableList, IsWritablePage}
 use Rattle.gd_json.specs.Numbers.{item_id_of, id_written}
 use Rattle.gd_json.specs.Sessions.{status_at, session_at, session_data}
-use Rattle.gd_json.specs.Writing.{put_optional, listed}
+use Rattle.gd_json.specs.Writing.{listed}
 use Rattle.gd_json.proofs.Ids.{id_again, expected_again}
 use Rattle.gd_json.proofs.LinksAgain.{token_again, name_again, session_again}
 use Rattle.gd_json.proofs.ListLoop.{items_again}
 use Rattle.gd_json.proofs.Through.{any, body_none, again, map_ok}
-use Rattle.gd_json.proofs.Plain.{IsPlain, ArePlain, string_plain, none_plain, put_plain, put_optional_plain, object_plain, only_plain, listed_plain, array_plain}
+use Rattle.gd_json.proofs.Plain.{IsPlain, ArePlain, string_plain, none_plain, put_plain, put_optional_plain, object_plain, listed_plain, array_plain}
 use Rattle.gd_json.proofs.PlainItem.{item_plain}
 
 -- ---- errors

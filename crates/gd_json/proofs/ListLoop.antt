@@ -1,5 +1,5 @@
 -- Lists of items: what was read so far before what is left, and what is written.
-use Rattle.std.proofs.Common.{◌≡◌, ℕ, zero, suc, ◌<◌, ◌≤◌, List, [], ◌∷◌, ◌++◌, length, get_or, drop, Option, Some, None, Result, Ok, Err, All, refl, sym, ap, subst, ◌∙◌, arith, append_assoc, append-nil}
+use Rattle.std.proofs.Common.{◌≡◌, ℕ, zero, suc, ◌<◌, ◌≤◌, List, [], ◌∷◌, ◌++◌, length, get_or, drop, Option, Some, None, Ok, All, refl, sym, ap, subst, ◌∙◌, arith, append_assoc, append-nil}
 use Rattle.std.specs.Prelude.{option_map, option_and_then}
 use Rattle.std.specs.Result.{result_ok}
 use Rattle.std.proofs.lemmas.List.Elements.{All-cons, All-nil, All-head, All-tail}
@@ -10,7 +10,7 @@ use Rattle.gd_item.specs.declared.item.Item.{Item}
 use Rattle.gd_json.specs.declared.fault.Member.TheVariants as of
 use Rattle.gd_json.specs.declared.fault.JsonFault.{JsonFault}
 use Rattle.gd_json.specs.declared.fault.JsonFault.TheVariants.{NotJson, Lacks, BadMember, Memory}
-use Rattle.gd_json.specs.Faults.{Fails, Gives, ok_or}
+use Rattle.gd_json.specs.Faults.{Fails, ok_or}
 use Rattle.gd_json.specs.Items.{item_at, item_data, IsKnown, IsWritable}
 use Rattle.gd_json.specs.Lists.{items_in}
 use Rattle.gd_json.specs.Writing.{listed}

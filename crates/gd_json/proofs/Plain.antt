@@ -5,7 +5,7 @@ use Rattle.std.specs.declared.cmp.Ordering.{Ordering}
 use Rattle.std.specs.declared.cmp.Ordering.TheVariants.{Less, Equal, Greater}
 use Rattle.std.specs.Ordering.{nat_cmp, match_ordering}
 use Rattle.std.specs.Cmp.Lexicographic.{slice_cmp}
-use Rattle.serde_json.specs.Data.{Data, Items, Members, object, array, string, no_items, item, no_members, member, put, depth, items_depth, members_depth}
+use Rattle.serde_json.specs.Data.{Data, Items, Members, object, array, string, no_items, no_members, member, put, depth, items_depth, members_depth}
 use Rattle.serde_json.specs.Written.{has_float, items_have_float, members_have_float}
 use Rattle.gd_json.specs.Writing.{put_optional, only, listed}
 
@@ -55,7 +55,7 @@ put_plain n k d (member l e ms) here more =
     let head = head_plain n l e ms more in
     let tail = tail_plain n l e ms more in
     ordered_plain (slice_cmp nat_cmp k l) n _ _ _ (more_plain n k d (member l e ms) here more) (more_plain n l d ms here tail)
-      (more_plain n l e (put k d ms) head (put_plain n k d ms here tail))
+    (more_plain n l e (put k d ms) head (put_plain n k d ms here tail))
 
 pub put_optional_plain : (n : ℕ) (k : List ℕ) (o : Option Data) (ms : Members) → IfSome o (IsPlain n) → ArePlain n ms → ArePlain n (put_optional k o ms)
 put_optional_plain n k None ms here more = more

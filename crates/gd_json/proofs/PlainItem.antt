@@ -1,7 +1,7 @@
 -- What is written of an item nests little.
 use Rattle.std.proofs.Common.{◌≡◌, ℕ, suc, ◌≤◌, Bool, true, false, List, Option, Some, None, refl, arith, lit≤}
 use Rattle.std.specs.Prelude.{codes, IfSome, nat_eq, option_map}
-use Rattle.serde_json.specs.Data.{Data, Members, put, string, number, unsigned, object, no_members}
+use Rattle.serde_json.specs.Data.{Data, put, string, number, unsigned, object, no_members}
 use Rattle.gd_item.specs.declared.id.ItemId.{ItemId}
 use Rattle.gd_item.specs.declared.item.Tag.{Tag}
 use Rattle.gd_item.specs.declared.item.Item.{Item}

@@ -1,13 +1,12 @@
 -- Bytes of numbers, tokens and bases of links: all of them are ASCII.
-use Rattle.std.proofs.Common.{◌≡◌, ◌≢◌, ℕ, ◌<◌, ◌≤◌, ◌^◌, Bool, true, false, not, ◌&&◌, ◌||◌, List, [], ◌∷◌, ◌++◌, length, get_or, take, drop, Option, Some, None, Result, Ok, Err, All, cond, refl, sym, ap, subst, ◌∙◌, ⊎_elim, arith, lit≤}
+use Rattle.std.proofs.Common.{◌≡◌, ◌≢◌, ℕ, ◌<◌, ◌≤◌, ◌^◌, Bool, true, false, not, ◌&&◌, ◌||◌, List, [], ◌∷◌, ◌++◌, length, get_or, take, drop, Some, None, Result, Ok, Err, All, cond, refl, sym, ap, subst, ⊎_elim, arith, lit≤}
 use Rattle.std.specs.Prelude.{codes, nat_eq, nat_le, nat_lt}
 use Rattle.std.specs.Cmp.Lexicographic.{bytes_decides}
 use Rattle.std.specs.List.{list_all}
-use Rattle.std.specs.Result.{result_ok, OkIff}
+use Rattle.std.specs.Result.{OkIff}
 use Rattle.std.specs.Str.{IsUtf8, IsAscii, all_ascii_digits}
 use Rattle.std.specs.Str.Parse.{digits_value, ParsesUnsigned}
-use Rattle.std.proofs.lemmas.Bool.{cases_Bool, and_parts, or_cases, eqb-true, eqb-false, leb-true, lt-ltb, ltb-true, le-leb, ne_eqb, both_ways, false_from_ne_true, cond-true, cond-false}
-use Rattle.std.proofs.lemmas.Bool.Decides.{nat_tests}
+use Rattle.std.proofs.lemmas.Bool.{and_parts, or_cases, eqb-true, eqb-false, leb-true, lt-ltb, ltb-true, le-leb, ne_eqb}
 use Rattle.std.proofs.lemmas.Fmt.{IsAscii-from_digits}
 use Rattle.std.proofs.lemmas.List.{take-append-drop}
 use Rattle.std.proofs.lemmas.List.Elements.{All-cons, All-nil}
@@ -126,7 +125,7 @@ base_text text e =
     let parts = and_parts _ (is_authority false (drop 7 text)) e in
     let front : codes "http://" ≡ take 7 text = (bytes_decides (codes "http://") (take 7 text)).0 parts.0 in
     let all : IsAscii (take 7 text ++ drop 7 text) = IsAscii-append (take 7 text) (drop 7 text)
-      (subst IsAscii front (IsAscii-from_all (codes "http://") (all_small (λ b. nat_lt b 128) (λ b h. ltb-true b 128 h) (codes "http://") refl))) (authority_ascii false (drop 7 text) parts.1) in
+    (subst IsAscii front (IsAscii-from_all (codes "http://") (all_small (λ b. nat_lt b 128) (λ b h. ltb-true b 128 h) (codes "http://") refl))) (authority_ascii false (drop 7 text) parts.1) in
     IsUtf8-from_ascii text (subst IsAscii (take-append-drop 7 text) all)
 
 -- the port that is parsed

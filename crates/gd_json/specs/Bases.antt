@@ -1,5 +1,5 @@
 -- Where links begin: `http://`, a host of letters, digits, dots and dashes, a colon and a port in decimal.
-use Rattle.std.specs.Prelude.{ℕ, Bool, true, false, ◌&&◌, ◌||◌, cond, List, [], ◌∷◌, length, drop, codes, nat_eq, nat_le, slice_index}
+use Rattle.std.specs.Prelude.{ℕ, Bool, true, false, ◌&&◌, ◌||◌, cond, List, [], ◌∷◌, drop, codes, nat_eq, nat_le, slice_index}
 use Rattle.std.specs.List.{starts_with}
 use Rattle.std.specs.Str.{all_ascii_digits}
 use Rattle.std.specs.Str.Parse.{digits_value}

@@ -1,5 +1,5 @@
 -- What a request asks for: a folder to be made, a change of an item, and the beginning of an upload session.
-use Rattle.std.specs.Prelude.{◌≡◌, ℕ, ◌<◌, ◌^◌, Bool, false, List, [], ◌∷◌, Option, Some, None, option_map, option_and_then, unwrap_or, Result, Ok, codes, ⊤}
+use Rattle.std.specs.Prelude.{◌≡◌, ℕ, ◌<◌, false, List, [], ◌∷◌, Option, Some, None, option_map, option_and_then, unwrap_or, Result, Ok, codes}
 use Rattle.serde_json.specs.Data.{Data, no_members, put, string, boolean, object}
 use Rattle.serde_json.specs.Find.{get, as_str, as_bool}
 use Rattle.gd_names.specs.declared.conflict.Conflict.{Conflict}

@@ -1,5 +1,5 @@
 -- An item as a body: its members in their order, and its one spelling.
-use Rattle.std.specs.Prelude.{◌≡◌, ◌≢◌, ℕ, Bool, true, ◌||◌, cond, if◌then◌else◌, ⊤, length, ◌<◌, ◌^◌, List, [], ◌∷◌, Option, Some, None, option_map, option_and_then, is_none, nat_eq, Result, Ok, Err, codes}
+use Rattle.std.specs.Prelude.{◌≡◌, ℕ, Bool, true, ◌||◌, cond, if◌then◌else◌, ⊤, length, ◌<◌, ◌^◌, List, [], ◌∷◌, Option, Some, None, option_map, is_none, nat_eq, Result, Ok, Err, codes}
 use Rattle.std.specs.Result.{result_ok}
 use Rattle.hex.specs.Hex.{IsBytes, decode_sized, encode_upper}
 use Rattle.serde_json.specs.Data.{Data, Members, no_members, put, string, number, unsigned, object}
@@ -16,7 +16,7 @@ use Rattle.gd_json.specs.declared.fault.Member.TheVariants as of
 use Rattle.gd_json.specs.declared.fault.JsonFault.{JsonFault}
 use Rattle.gd_json.specs.declared.fault.JsonFault.TheVariants.{Lacks, BadMember}
 use Rattle.gd_json.specs.declared.item.Reference.{Reference}
-use Rattle.gd_json.specs.Faults.{◌>>=◌, ok_or}
+use Rattle.gd_json.specs.Faults.{◌>>=◌}
 use Rattle.gd_json.specs.Values.{number_of, object_of, one_of}
 use Rattle.gd_json.specs.Members.{needed, optional, text_as, optional_as}
 use Rattle.gd_json.specs.Numbers.{item_id_of, id_written}

@@ -1,5 +1,5 @@
 -- An upload session, and its status.
-use Rattle.std.specs.Prelude.{ℕ, List, [], ◌++◌, Option, Some, None, option_map, option_and_then, Result, Ok, codes}
+use Rattle.std.specs.Prelude.{ℕ, List, ◌++◌, Option, None, option_map, option_and_then, Result, Ok, codes}
 use Rattle.std.specs.Fmt.{decimal}
 use Rattle.serde_json.specs.Data.{Data, Items, no_items, item, no_members, put, string, array, object}
 use Rattle.serde_json.specs.Find.{get, as_str}

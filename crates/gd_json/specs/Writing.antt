@@ -1,6 +1,6 @@
 -- The data that is written, in few words.
 use Rattle.std.specs.Prelude.{ℕ, List, [], ◌∷◌, Option, Some, None}
-use Rattle.serde_json.specs.Data.{Data, Items, no_items, item, Members, no_members, put, string, object}
+use Rattle.serde_json.specs.Data.{Data, Items, item, Members, no_members, put, object}
 
 -- the members, with one more where there is one
 abbrev pub put_optional : List ℕ → Option Data → Members → Members

@@ -33,5 +33,5 @@ pub use session::{SessionBody, read_session, read_status, write_session};
 pub use wire::{Wire, WireFault};
 pub use written::write_item;
 
-
-
+#[cfg(test)]
+mod tests;

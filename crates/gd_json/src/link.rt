@@ -1,6 +1,5 @@
 //! Links. The front of a link is made in one place, for writing and for reading.
 ghost use Rattle.std.specs.Prelude.{◌≡◌, ◌++◌, IfOk, option_map};
-
 ghost use Rattle.std.specs.List.{list_all};
 ghost use Rattle.gd_names.specs.Escapes.{unescaped};
 ghost use Rattle.gd_json.specs.Faults.{Gives, ok_or};
@@ -61,12 +60,7 @@ pub fn delta_link(alloc: Global, wire: &Wire, token: &Text) -> Result<Text, NoMe
 
 /// The token of a link to a page.
 #[tactic(auto, unfolding(crate::specs::Links::token_of_link))]
-pub fn token_of(
-    alloc: Global,
-    wire: &Wire,
-    link: &str,
-    member: Member,
-) -> Result<Text, JsonFault>
+pub fn token_of(alloc: Global, wire: &Wire, link: &str, member: Member) -> Result<Text, JsonFault>
     ensures { Gives (λ t. t) result (ok_or (JsonFault.BadMember member) (token_of_link wire.now.base link.now)) }
 {
     let front = delta_front(alloc, wire)?;
@@ -108,12 +102,7 @@ fn children_front(alloc: Global, wire: &Wire, id: ItemId) -> Result<Text, NoMemo
     join(alloc, &item, "/children?$skiptoken=")
 }
 
-pub fn children_link(
-    alloc: Global,
-    wire: &Wire,
-    id: ItemId,
-    name: &Text,
-) -> Result<Text, NoMemory>
+pub fn children_link(alloc: Global, wire: &Wire, id: ItemId, name: &Text) -> Result<Text, NoMemory>
     ensures { IfOk result (λ t. t ≡ children_link wire.now.base id name.now) }
 {
     let front = children_front(alloc, wire, id)?;

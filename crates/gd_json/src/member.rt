@@ -130,9 +130,8 @@ pub fn put_text(
 ) -> Result<(), NoMemory>
     ensures { OnOk result (members_view map.new.entries ≡ put name.now (string text.now) (members_view map.old.entries)) }
 {
-    let value = Value::try_from_str(alloc, text)?;
-    serde_json::put(map, alloc, name, value)?;
-    Ok(())
+    let value = text_value(alloc, text)?;
+    put_value(alloc, map, name, value)
 }
 
 pub fn put_optional_text(

@@ -116,7 +116,12 @@ fn session_value(alloc: Global, body: &SessionBody, wire: &Wire) -> Result<Value
     ensures { IfOk result (λ v. view v ≡ session_data wire.now.base body.now) }
 {
     let mut map = Map::new(alloc);
-    put_text(alloc, &mut map, "expirationDateTime", "2099-01-01T00:00:00Z")?;
+    put_text(
+        alloc,
+        &mut map,
+        "expirationDateTime",
+        "2099-01-01T00:00:00Z",
+    )?;
     let ranges = ranges_value(alloc, body.expected)?;
     put_value(alloc, &mut map, "nextExpectedRanges", ranges)?;
     put_session(alloc, &mut map, body.session, wire)?;

@@ -100,11 +100,7 @@ fn put_common(alloc: Global, map: &mut Map<String, Value>, item: &Item) -> Resul
     put_parent(alloc, map, item.parent, &item.parent_path)
 }
 
-fn put_ctag(
-    alloc: Global,
-    map: &mut Map<String, Value>,
-    ctag: &Option<Tag>,
-) -> Result<(), NoMemory>
+fn put_ctag(alloc: Global, map: &mut Map<String, Value>, ctag: &Option<Tag>) -> Result<(), NoMemory>
     ensures { OnOk result (members_view map.new.entries ≡ put_optional (codes "cTag") (option_map tag_data ctag.now) (members_view map.old.entries)) }
 {
     match ctag {
@@ -148,8 +144,7 @@ pub fn item_value(alloc: Global, item: &Item) -> Result<Value, NoMemory>
 
 fn known_bytes(bytes: &[u8])
     ensures { IsBytes bytes.now }
-{
-}
+{}
 
 fn known_digest(digest: &[u8; 32])
     ensures { (length digest.now ≡ 32) × IsBytes digest.now }
@@ -169,8 +164,7 @@ fn known_kind(kind: &Kind)
 
 pub fn known_number(number: u64)
     ensures { number < 2 ^ 64 }
-{
-}
+{}
 
 pub fn known_parent(parent: Option<ItemId>)
     ensures { (id : ItemId) → parent ≡ Some id → id.0 < 2 ^ 64 }

@@ -1,5 +1,5 @@
-use Rattle.std.proofs.Common.{add-one, ◌∙◌, sym, ap, refl}
-use Rattle.gd_json.proofs.ListLoop.{before, before_more, before_all, listed_drop, listed_past, known_drop, known_past}
+use Rattle.std.proofs.Common.{add-one, ◌∙◌}
+use Rattle.gd_json.proofs.ListLoop.{before_more, before_all, listed_drop, listed_past, known_drop, known_past}
 use Rattle.gd_json.proofs.list.item_values.Goals as goal
 
 pub loop-item-preserved : goal.loop-item-preserved
