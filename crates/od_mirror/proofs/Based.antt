@@ -1,17 +1,17 @@
 -- What a client had of a drive at a position is what the feed past it goes on from.
-use Rattle.std.proofs.Common.{◌≡◌, ℕ, ◌+◌, ◌-◌, ◌^◌, ◌<◌, ◌≤◌, ◌⊎◌, inl, inr, Bool, true, false, cond, nat_eq, List, [], ◌∷◌, ◌++◌, codes, map, Option, Some, None, refl, ap, sym, subst, ◌∙◌, arith}
+use Rattle.std.proofs.Common.{◌≡◌, ℕ, ◌+◌, ◌-◌, ◌^◌, ◌<◌, ◌≤◌, inl, inr, Bool, true, false, cond, nat_eq, List, [], ◌∷◌, map, Option, Some, None, refl, ap, sym, subst, ◌∙◌, arith}
 use Rattle.std.proofs.lemmas.Bool.{eq-eqb, eqb-true, ne_eqb}
 use Rattle.std.proofs.lemmas.Fmt.{decimal_injective}
 use Rattle.std.specs.Fmt.{decimal}
-use Rattle.std.specs.List.{AllByRecursion, AllZip}
+use Rattle.std.specs.List.{AllByRecursion}
 use Rattle.std.specs.Map.{values_of}
 use Rattle.std.specs.Option.{option_map}
-use Rattle.gd_names.proofs.Maps.{Both, look, Up, look-first}
+use Rattle.gd_names.proofs.Maps.{Both, look, Up}
 use Rattle.gd_item.specs.Answers.{bare_kind}
 use Rattle.gd_item.specs.Inventory.{Inventory, live_at}
 use Rattle.gd_item.specs.Records.{record_of, root_record, records_of, kind_at}
 use Rattle.gd_item.specs.Tags.{tag_of, etag_text}
-use Rattle.gd_item.specs.Views.{uncounted_kind, uncounted, Lacks, IsItemOf, AreItemsOf}
+use Rattle.gd_item.specs.Views.{uncounted_kind, uncounted, IsItemOf, AreItemsOf}
 use Rattle.gd_item.specs.declared.id.ItemId.{ItemId}
 use Rattle.gd_item.specs.declared.item.Item.{Item}
 use Rattle.gd_item.specs.declared.item.Kind.{Kind}

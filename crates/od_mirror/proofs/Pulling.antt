@@ -27,11 +27,11 @@ use Rattle.gd_laws.proofs.Every.{every-drive}
 use Rattle.gd_laws.proofs.Marks.{IsMarked, is-marked}
 use Rattle.gd_laws.proofs.Pages.{last-of-token, last-of-none}
 use Rattle.gd_laws.proofs.Since.{IsSince, is-since}
-use Rattle.od_mirror.specs.Pulled.{Pulled, begun, after_page, after_link, with_records, nodes, IsView, IsLeastBad}
+use Rattle.od_mirror.specs.Pulled.{begun, after_page, after_link, with_records, nodes, IsView, IsLeastBad}
 use Rattle.od_mirror.specs.Pulls.{IsLastPage, token_then}
 use Rattle.od_mirror.specs.declared.view.MirrorView.{MirrorView}
 use Rattle.od_mirror.proofs.Based.{kept-base, first-base}
-use Rattle.od_mirror.proofs.Fed.{Shows, IsBase, shown, fed-at}
+use Rattle.od_mirror.proofs.Fed.{Shows, IsBase, fed-at}
 use Rattle.od_mirror.proofs.Numbered.{numbered, values-numbered, look-numbered, up-numbered}
 use Rattle.od_mirror.proofs.Shown.{shows-whole, shows-bare, same-nodes}
 use Rattle.od_mirror.proofs.Standing.{records-fit}

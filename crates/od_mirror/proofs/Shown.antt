@@ -1,19 +1,17 @@
 -- The records of a drive as it shows them, plain or not, are items of those records; and such items make the same nodes.
-use Rattle.std.proofs.Common.{◌≡◌, ℕ, ◌⊎◌, inl, inr, Bool, true, false, cond, nat_eq, List, [], ◌∷◌, map, Option, Some, None, refl, ap, sym, subst, ◌∙◌}
+use Rattle.std.proofs.Common.{◌≡◌, ℕ, ◌⊎◌, inl, inr, Bool, true, false, cond, nat_eq, List, [], ◌∷◌, Option, Some, None, refl, ap, sym, subst, ◌∙◌}
 use Rattle.std.specs.Cmp.Lexicographic.{pointwise, same_text}
-use Rattle.std.specs.List.{AllZip}
 use Rattle.gd_names.proofs.Maps.{Both}
 use Rattle.gd_item.specs.Answers.{bare_kind, bare_item}
 use Rattle.gd_item.specs.Inventory.{Inventory}
 use Rattle.gd_item.specs.Nodes.{Node, item_node, is_folder_kind}
-use Rattle.gd_item.specs.Records.{kind_at, record_of, root_record, deleted_record}
+use Rattle.gd_item.specs.Records.{kind_at, record_of, root_record}
 use Rattle.gd_item.specs.Views.{uncounted_kind, uncounted, Lacks, IsItemOf, AreItemsOf}
 use Rattle.gd_item.specs.declared.item.Item.{Item}
 use Rattle.gd_item.specs.declared.item.Kind.{Kind}
 use Rattle.gd_item.specs.declared.item.Kind.TheVariants.{Folder, File, Bare, Deleted}
 use Rattle.gd_item.specs.declared.item.Tag.{Tag}
 use Rattle.gd_item.specs.declared.live.LiveItem.{LiveItem}
-use Rattle.gd_item.specs.declared.live.Tombstone.{Tombstone}
 use Rattle.od_mirror.specs.Pulled.{known_from, known_kind, nodes}
 use Rattle.od_mirror.proofs.Fed.{IsOther, Shows}
 use Rattle.od_mirror.proofs.Told.{standing}

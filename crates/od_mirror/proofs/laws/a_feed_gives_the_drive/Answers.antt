@@ -1,5 +1,4 @@
 use Rattle.gd_item.specs.Steps.{state_of, held_by}
-use Rattle.gd_laws.specs.EveryDrive.{EveryDrive}
 use Rattle.gd_laws.proofs.Every.{every-drive}
 use Rattle.gd_laws.proofs.Marks.{is-marked}
 use Rattle.od_mirror.proofs.Pulling.{feed-gives-all}
