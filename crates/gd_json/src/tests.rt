@@ -767,7 +767,7 @@ fn bytes_of_any_kind_have_a_fault(rt: HostRuntime) -> Result<(), Fail> {
 /// A member that nobody reads, made of as many of these bytes.
 fn long(alloc: Global, front: &str, byte: u8, count: usize, end: &str) -> Result<Vec<u8>, Fail> {
     let mut bytes = vec![in alloc; byte; count]?;
-    let mut text = Vec::with_capacity(alloc, count + front.len() + end.len())?;
+    let mut text = Vec::new(alloc);
     text.extend_from_slice(front.as_bytes())?;
     text.append(&mut bytes)?;
     text.extend_from_slice(end.as_bytes())?;
