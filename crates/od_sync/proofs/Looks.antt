@@ -83,10 +83,10 @@ by-op listings call old edits after look listing is =
       grown = is ∙ ap (λ log. Some log) (append_assoc old user (Op call ∷ []));
     }
 
-either-way : (listings : ℕ) (call : TreeOp) (old : List LocalStep) (edits : List UserEdit) (after : Option (List LocalStep)) → IsLook (Op call) → IsListing listings call
-    → (after ≡ Some (edited old edits)) ⊎ (after ≡ Some (with_op old edits call)) → GrownByLooks listings old after
+either-way : {Allowed : Type 0} (listings : ℕ) (call : TreeOp) (old : List LocalStep) (edits : List UserEdit) (after : Option (List LocalStep)) → IsLook (Op call) → IsListing listings call
+    → (after ≡ Some (edited old edits)) ⊎ ((after ≡ Some (with_op old edits call)) × Allowed) → GrownByLooks listings old after
 either-way listings call old edits after look listing (inl without) = by-edits listings old edits after without
-either-way listings call old edits after look listing (inr done) = by-op listings call old edits after look listing done
+either-way listings call old edits after look listing (inr done) = by-op listings call old edits after look listing done.0
 
 pub looks-ok : {T : Type 0} (listings : ℕ) (call : TreeOp) (Value : Local → T → Type 0) (before after : Option (List LocalStep)) (x : T) → IsLook (Op call) → IsListing listings call
     → Calls call Value before after (Ok x) → GrowsByLooks listings before after

@@ -36,10 +36,10 @@ module _ (IsFolder : List (List ℕ) → Type 0) (IsFile : List (List ℕ) → L
     grown = is ∙ ap (λ log. Some log) (append_assoc old (map (λ (edit : UserEdit). User edit) edits) (Op call ∷ []));
   }
 
-  either-way : (call : TreeOp) (old : List LocalStep) (edits : List UserEdit) (after : Option (List LocalStep)) → IsMakingOf IsFolder IsFile (Op call)
-      → (after ≡ Some (edited old edits)) ⊎ (after ≡ Some (with_op old edits call)) → Made IsFolder IsFile old after
+  either-way : {Allowed : Type 0} (call : TreeOp) (old : List LocalStep) (edits : List UserEdit) (after : Option (List LocalStep)) → IsMakingOf IsFolder IsFile (Op call)
+      → (after ≡ Some (edited old edits)) ⊎ ((after ≡ Some (with_op old edits call)) × Allowed) → Made IsFolder IsFile old after
   either-way call old edits after makes (inl without) = by-edits old edits after without
-  either-way call old edits after makes (inr done) = by-op call old edits after makes done
+  either-way call old edits after makes (inr done) = by-op call old edits after makes done.0
 
 pub makes-ok : {T : Type 0} {IsFolder : List (List ℕ) → Type 0} {IsFile : List (List ℕ) → List ℕ → Type 0} (call : TreeOp) (Value : Local → T → Type 0) (before after : Option (List LocalStep)) (x : T)
     → IsMakingOf IsFolder IsFile (Op call) → Calls call Value before after (Ok x) → Makes IsFolder IsFile before after

@@ -205,7 +205,7 @@ spent-unheard request old others after written by (inr last) =
 
 pub sent-unheard : (request : Request) (fault : AskFault) (before after : Option (List Step)) {E : Type 0} → IsWritten request → fault ≡ ask.Failed → Asks request before after (Err fault) → SendsOnce request before after {E = E} (Ok (Err 0))
 sent-unheard request fault before after written is asks =
-    record { last_page = omega arith; ok = λ old told. let u = asks.failed is old told in spent-unheard request old u.others after written u.by_others u.grown; err = tt }
+    record { last_page = omega arith; ok = λ old told. let u = asks.failed (cc is) old told in spent-unheard request old u.others after written u.by_others u.grown; err = tt }
 
 -- one that was given up where memory ran out
 untaken-none : (request : Request) (sends : ℕ) (old part : List Step) (after : Option (List Step)) → OwnAre (IsSpent request) part → count_by is_own_delta part ≤ sends → after ≡ Some (old ++ part) → Untaken request sends old after
@@ -247,7 +247,7 @@ untaken-given-up request old part after written by (inr last) =
 
 pub sent-stopped : (request : Request) (fault : AskFault) (before after : Option (List Step)) {E : Type 0} (e : E) → IsWritten request → fault ≡ ask.Memory → Asks request before after (Err fault) → SendsOnce request before after (Err e)
 sent-stopped request fault before after e written is asks =
-    record { last_page = tt; ok = tt; err = λ old told. let given_up = asks.memory is old told in untaken-given-up request old given_up.part after written given_up.such given_up.grown }
+    record { last_page = tt; ok = tt; err = λ old told. let given_up = asks.memory (cc is) old told in untaken-given-up request old given_up.part after written given_up.such given_up.grown }
 
 -- ---- one send after others
 last-of-both : (request : Request) (a b : ℕ) (first second : List Step) → (0 < a → (before : Option Step) → last_heard_after before first ≡ Some (Ask Own request false true))
@@ -417,6 +417,21 @@ untaken-asked token old after u = record {
   chained = lost-chained token old u.part u.lost u.such u.lost_is;
   grown = u.grown;
 }
+
+-- nothing is sent
+none-untaken : (request : Request) (old : List Step) (log : Option (List Step)) → log ≡ Some old → Untaken request 3 old log
+none-untaken request old log told = untaken-none request 3 old [] log tt (omega arith) (told ∙ ap (λ steps. Some steps) (sym (append-nil old)))
+
+pub asks-none : (request : Request) (log : Option (List Step)) → DeltaAsks request log log (Err Memory)
+asks-none request log = record {
+  last_page = tt;
+  ok = tt;
+  unserved = λ is. absurd (cc is);
+  err = λ old told. none-untaken request old log told;
+}
+
+pub none-asked : (token : Option (List ℕ)) (log : Option (List Step)) → AsksDelta token log log
+none-asked token log = record { told = λ old told. untaken-asked token old log (none-untaken (Delta token) old log told) }
 
 pub delta-asks : (token : Option (List ℕ)) (result : Result Page DeltaFault) (before after : Option (List Step)) → DeltaAsks (Delta token) before after result → AsksDelta token before after
 delta-asks token (Ok page) before after asks = record { told = λ old told. page-asked token old after page asks.last_page (asks.ok old told) }

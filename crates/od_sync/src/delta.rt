@@ -51,10 +51,24 @@ fn is_token_byte(byte: u8) -> bool
     matches!(byte, b'A'..=b'Z' | b'a'..=b'z' | b'0'..=b'9' | b'.')
 }
 
+fn are_token_bytes(text: &[u8]) -> bool
+    ensures { result ≡ list_all is_token_byte text.now }
+{
+    for byte in text {
+        if !is_token_byte(*byte) {
+            return false;
+        }
+    }
+    true
+}
+
 fn is_token_text(text: &[u8]) -> bool
     ensures { result ≡ (nat_lt 0 (length text.now) && list_all is_token_byte text.now) }
 {
-    0 < text.len() && text.iter().all(|byte| is_token_byte(*byte))
+    if text.is_empty() {
+        return false;
+    }
+    are_token_bytes(text)
 }
 
 /// Whether a request for changes can carry a token.

@@ -1,6 +1,5 @@
 //! Drives of which nothing is told.
 ghost use Rattle.std.specs.Prelude.{◌≡◌, true, IfOk};
-ghost use Rattle.gd_item.specs.Requests.{kind_of};
 ghost use Rattle.od_transfer.specs.Asking.{is_last_link, may_answer};
 
 use gd_item::{ErrorCode, Item, ItemId, Kind, Page, PageLink, Reply, Request, Tag, digest_of};
@@ -116,6 +115,12 @@ impl Remote for Empty {
 
     ghost undisturbed = { λ r. false };
 
+    ghost goes = { λ x y. Unit {0} };
+
+    ghost goes_refl = { λ x. tt };
+
+    ghost goes_trans = { λ x y z first second. tt };
+
     fn ask(&mut self, alloc: Global, request: &Request) -> Result<Reply, AskFault> {
         match empty_reply(alloc, request, self.wanting > 0) {
             Ok(reply) => {
@@ -140,6 +145,12 @@ impl Remote for OneFile {
     ghost in_row = { λ r. 0 };
 
     ghost undisturbed = { λ r. false };
+
+    ghost goes = { λ x y. Unit {0} };
+
+    ghost goes_refl = { λ x. tt };
+
+    ghost goes_trans = { λ x y z first second. tt };
 
     fn ask(&mut self, alloc: Global, request: &Request) -> Result<Reply, AskFault> {
         match file_reply(alloc, request) {

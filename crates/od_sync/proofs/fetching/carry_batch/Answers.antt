@@ -24,5 +24,5 @@ returns-in-Ok-clause-brings g c =
 pub returns-in-Ok-clause-log : goal.returns-in-Ok-clause-log
 returns-in-Ok-clause-log g c = carries-transfers c.args.batch.now c.in_ok-jobs.jobs (g.R.Remote.log c.args.remote.now) (g.R.Remote.log c.carry.new.self) c.in_ok-jobs.ensures c.requires c.in-Ok.ensures.told
 
-pub returns-in-Err-clause-log : goal.returns-in-Err-clause-log
-returns-in-Err-clause-log g c = carries-transfers c.args.batch.now c.in_ok-jobs.jobs (g.R.Remote.log c.args.remote.now) (g.R.Remote.log c.carry.new.self) c.in_ok-jobs.ensures c.requires c.in-Err.ensures.told
+pub returns-clause-log : goal.returns-clause-log
+returns-clause-log g c = carries-transfers c.args.batch.now c.in_ok-jobs.jobs (g.R.Remote.log c.args.remote.now) (g.R.Remote.log c.carry.new.self) c.in_ok-jobs.ensures c.requires c.in-Err.ensures.told
