@@ -3,6 +3,7 @@ mod files;
 mod folders;
 mod items;
 mod moves;
+mod names;
 mod reads;
 mod requests;
 mod store;

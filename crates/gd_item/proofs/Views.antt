@@ -1,7 +1,8 @@
 -- What a client has of a drive's items stays that while the drive's log grows. Of a drive that is not plain, it is the drive's
 -- records but for the numbers of children.
-use Rattle.std.proofs.Common.{◌≡◌, ℕ, ◌-◌, ◌≤◌, inl, inr, Bool, true, false, List, [], ◌∷◌, ◌++◌, length, map, take, Option, Some, None, refl, ap, sym, subst, ◌∙◌, arith}
+use Rattle.std.proofs.Common.{◌≡◌, ℕ, ◌-◌, ◌≤◌, ◌⊎◌, inl, inr, Bool, true, false, List, [], ◌∷◌, ◌++◌, length, map, take, Option, Some, None, refl, ap, sym, subst, ◌∙◌, arith}
 use Rattle.std.proofs.lemmas.List.{take_all, take-append-le}
+use Rattle.std.specs.List.{AllZip}
 use Rattle.gd_item.specs.Inventory.{Effect, Inventory, inventory}
 use Rattle.gd_item.specs.Records.{records_of}
 use Rattle.gd_item.specs.Steps.{state_of, held_by, number_of, held_at}

@@ -23,10 +23,10 @@ use Rattle.gd_names.specs.declared.conflict.Settle.TheVariants.{Free, Over, Refu
 use Rattle.gd_names.specs.declared.conflict.Sibling.{Sibling}
 use Rattle.gd_names.specs.declared.name.NameFault.{NameFault}
 use Rattle.gd_names.specs.declared.name.NameFault.TheVariants.{Empty, TooLong, BadByte, Edge, Reserved}
-use Rattle.gd_names.proofs.Settled.{digits_in_lower_case}
+use Rattle.gd_names.proofs.Settled.{digits_in_lower_case, over_is_not_free}
 use Rattle.gd_names.proofs.Small.{clear}
 
-or-none : (a b : Bool) → a ≡ false → b ≡ false → (a || b) ≡ false
+pub or-none : (a b : Bool) → a ≡ false → b ≡ false → (a || b) ≡ false
 or-none true b none also = absurd cc
 or-none false b none also = also
 
@@ -319,15 +319,11 @@ free-short made free is = by (nat_le (length made) 255) refl is
     by true short is = (cc, leb-true (length made) 255 short)
     by false long is = absurd cc
 
-over-none : (over : Bool) (id : ℕ) (free : List ℕ) → cond over (Over id) Refuse ≡ Free free → ⊥
-over-none true id free is = cc
-over-none false id free is = cc
-
 named-at : (found : Option Sibling) (behaviour : Conflict) (siblings : List Sibling) (name free : List ℕ) (folder : Bool) → length siblings < 100000 → name_fault name ≡ None
     → settled_at found behaviour siblings name folder ≡ Free free → name_fault free ≡ None
 named-at None behaviour siblings name free folder few named is = let same : name ≡ free = cc in subst (λ t. name_fault t ≡ None) same named
 named-at (Some other) Fail siblings name free folder few named is = absurd cc
-named-at (Some other) Replace siblings name free folder few named is = absurd (over-none (not folder && not other.folder) other.id free is)
+named-at (Some other) Replace siblings name free folder few named is = absurd (over_is_not_free (not folder && not other.folder) other.id free is)
 named-at (Some other) Rename siblings name free folder few named is =
     let n : ℕ = least_number siblings siblings name folder 1 in
     let low : n ≤ 1 + length siblings = least-low siblings siblings name folder 1 in

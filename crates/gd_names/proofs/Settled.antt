@@ -187,7 +187,7 @@ free_is_made : (fits : Bool) (made free : List ℕ) → cond fits (Free made) Re
 free_is_made true made free is = cc
 free_is_made false made free is = cc
 
-over_is_not_free : (over : Bool) (id : ℕ) (free : List ℕ) → cond over (Over id) Refuse ≡ Free free → ⊥
+pub over_is_not_free : (over : Bool) (id : ℕ) (free : List ℕ) → cond over (Over id) Refuse ≡ Free free → ⊥
 over_is_not_free true id free is = cc
 over_is_not_free false id free is = cc
 

@@ -15,8 +15,6 @@ mod numbered;
 mod path;
 mod sink;
 mod source;
-#[cfg(test)]
-mod tests;
 mod text;
 
 pub use bytes::Bytes;

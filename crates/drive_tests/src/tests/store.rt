@@ -1,6 +1,6 @@
 use super::{condition, text};
 use gd_item::{Condition, Item, ItemId, Kind, Place, StoreFault};
-use gd_names::{Bytes, Conflict, Path, Text};
+use gd_names::{Conflict, Path};
 use gd_store::Store;
 use std::alloc::Global;
 use std::test::Fail;
@@ -316,26 +316,28 @@ fn the_feed_has_removed_items(rt: HostRuntime) -> Result<(), Fail> {
     Ok(())
 }
 
-/// Why a file of the root is not put, if it is not.
-fn fault_of(alloc: Global, store: &mut Store, bytes: &[u8]) -> Result<Option<StoreFault>, Fail> {
+/// Why a file of one byte is not put, if it is not, beside so many bytes of sessions.
+fn fault_beside(alloc: Global, store: &mut Store, others: u64) -> Result<Option<StoreFault>, Fail> {
     let place = Place::Under(ItemId(1), text(alloc, "f")?);
-    let put = store.put(&place, bytes, Conflict::Replace, &Condition::Free, 0);
+    let put = store.put(&place, b"1", Conflict::Replace, &Condition::Free, others);
     Ok(put.err())
 }
 
 #[test]
 fn kept_bytes_have_a_limit(rt: HostRuntime) -> Result<(), Fail> {
     let alloc = rt.alloc();
-    let mut store = Store::new(alloc)?;
-    let bytes = Bytes::from_vec(Vec::from_elem(alloc, 7, 4_194_304)?);
-    for _ in 0..128 {
-        assert_eq!(rt; fault_of(alloc, &mut store, bytes.as_slice())?, None);
+    let mut store = small(alloc)?;
+    store.remove(ItemId(3), &Condition::Free)?;
+    assert_eq!(rt; store.kept_bytes(), 7);
+    for (others, fault) in [
+        (MOST_BYTES - 7, Some(StoreFault::Quota)),
+        (u64::MAX, Some(StoreFault::Quota)),
+        (MOST_BYTES - 8, None),
+        (MOST_BYTES - 8, Some(StoreFault::Quota)),
+    ] {
+        assert_eq!(rt; fault_beside(alloc, &mut store, others)?, fault, "{others}");
     }
-    assert_eq!(rt; store.kept_bytes(), MOST_BYTES);
-    assert_eq!(rt; fault_of(alloc, &mut store, b"")?, None);
-    assert_eq!(rt; fault_of(alloc, &mut store, b"1")?, Some(StoreFault::Quota));
-    store.remove(ItemId(2), &Condition::Free)?;
-    assert_eq!(rt; fault_of(alloc, &mut store, b"1")?, Some(StoreFault::Quota));
+    assert_eq!(rt; store.kept_bytes(), 8);
     Ok(())
 }
 

@@ -1,4 +1,8 @@
-use super::*;
+use gd_names::{
+    Bytes, EscapeFault, List, MemorySink, MemorySource, NameFault, Path, PathFault, Sink,
+    SinkFault, Source, SourceFault, Text, TextFault, check_name, copy_name, escape_segment,
+    path_fits, unescape_segment,
+};
 use std::alloc::Global;
 use std::test::Fail;
 

@@ -1,0 +1,10 @@
+pub mod Again
+pub mod BodiesAgain
+pub mod Found
+pub mod Ids
+pub mod LinksAgain
+pub mod ListLoop
+pub mod Plain
+pub mod PlainItem
+pub mod Spelt
+pub mod Through

@@ -1,0 +1,13 @@
+pub mod Bases
+pub mod Bodies
+pub mod Changes
+pub mod Errors
+pub mod Faults
+pub mod Items
+pub mod Links
+pub mod Lists
+pub mod Members
+pub mod Numbers
+pub mod Sessions
+pub mod Values
+pub mod Writing
