@@ -26,5 +26,5 @@ world_further x y z first second = record {
   answers = omega (arith, first.answers, second.answers);
 }
 
-pub faults_later : (x y : WorldValue) → GoesOn x y → x.faults ≤ y.faults
-faults_later x y goes = goes.faults
+pub world_later : (x y : WorldValue) → GoesOn x y → (x.faults ≤ y.faults) × (x.answers ≤ y.answers)
+world_later x y goes = (goes.faults, goes.answers)

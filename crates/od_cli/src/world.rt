@@ -175,7 +175,7 @@ fn is_no_page(request: &Request, reply: &Reply) -> bool
 
 impl Remote for World {
     ghost use Rattle.std.specs.Prelude.{Some, true};
-    ghost use Rattle.od_cli.specs.GoingOn.{GoesOn, world_stays, world_further};
+    ghost use Rattle.od_cli.specs.GoingOn.{GoesOn, world_stays, world_further, world_later};
 
     ghost log = { λ w. Some w.log };
 
@@ -192,6 +192,8 @@ impl Remote for World {
     ghost goes_refl = { world_stays };
 
     ghost goes_trans = { world_further };
+
+    ghost goes_later = { world_later };
 
     fn ask(&mut self, _alloc: Global, request: &Request) -> Result<Reply, AskFault> {
         match self.own(request) {
