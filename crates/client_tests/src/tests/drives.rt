@@ -103,7 +103,8 @@ fn file_reply(alloc: Global, request: &Request) -> Result<Reply, NoMemory>
 }
 
 impl Remote for Empty {
-    ghost use Rattle.std.specs.Prelude.{None, false};
+    ghost use Rattle.std.proofs.Common.{le_refl, le_trans};
+    ghost use Rattle.std.specs.Prelude.{◌≤◌, None, false};
 
     ghost log = { λ r. None };
 
@@ -115,11 +116,13 @@ impl Remote for Empty {
 
     ghost undisturbed = { λ r. false };
 
-    ghost goes = { λ x y. Unit {0} };
+    ghost goes = { λ x y. x.answers ≤ y.answers };
 
-    ghost goes_refl = { λ x. tt };
+    ghost goes_refl = { λ x. le_refl x.answers };
 
-    ghost goes_trans = { λ x y z first second. tt };
+    ghost goes_trans = { λ x y z first more. le_trans first more };
+
+    ghost goes_later = { λ x y goes. (le_refl 0, goes) };
 
     fn ask(&mut self, alloc: Global, request: &Request) -> Result<Reply, AskFault> {
         match empty_reply(alloc, request, self.wanting > 0) {
@@ -134,7 +137,8 @@ impl Remote for Empty {
 }
 
 impl Remote for OneFile {
-    ghost use Rattle.std.specs.Prelude.{None, false};
+    ghost use Rattle.std.proofs.Common.{le_refl, le_trans};
+    ghost use Rattle.std.specs.Prelude.{◌≤◌, None, false};
 
     ghost log = { λ r. None };
 
@@ -146,11 +150,13 @@ impl Remote for OneFile {
 
     ghost undisturbed = { λ r. false };
 
-    ghost goes = { λ x y. Unit {0} };
+    ghost goes = { λ x y. x.answers ≤ y.answers };
 
-    ghost goes_refl = { λ x. tt };
+    ghost goes_refl = { λ x. le_refl x.answers };
 
-    ghost goes_trans = { λ x y z first second. tt };
+    ghost goes_trans = { λ x y z first more. le_trans first more };
+
+    ghost goes_later = { λ x y goes. (le_refl 0, goes) };
 
     fn ask(&mut self, alloc: Global, request: &Request) -> Result<Reply, AskFault> {
         match file_reply(alloc, request) {
