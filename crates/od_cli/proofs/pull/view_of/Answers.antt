@@ -10,5 +10,5 @@ unreachable-requires-in-Err-BadPages c =
 
 pub returns-in-Ok : goal.returns-in-Ok
 returns-in-Ok c =
-    c.in-Ok.ensures.ok.0
+    c.in-Ok.ensures.ok.items
     ∙ pulled-is c.new.result c.args.page.now c.start-mirror.result c.take_page.new.self c.new.ensures c.start-mirror.ensures c.in_ok-take_page.ensures.ok.0
