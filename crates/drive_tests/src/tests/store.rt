@@ -1,3 +1,5 @@
+ghost use Rattle.std.specs.Prelude.{◌<◌};
+
 use super::{condition, text};
 use gd_item::{Condition, Item, ItemId, Kind, Place, StoreFault};
 use gd_names::{Conflict, Path};
