@@ -1,5 +1,5 @@
 -- What holds where a call has no refusal.
-use Rattle.std.proofs.Common.{◌≡◌, ℕ, ◌+◌, ◌-◌, ◌^◌, ◌<◌, ◌≤◌, true, false, not, ◌||◌, nat_lt, List, length, is_some, None, refl, sym, ap, subst, arith}
+use Rattle.std.proofs.Common.{◌≡◌, ℕ, ◌+◌, ◌-◌, ◌^◌, ◌<◌, ◌≤◌, true, false, ◌||◌, nat_lt, List, length, is_some, None, refl, sym, ap, subst, arith}
 use Rattle.gd_names.specs.Names.{name_fault}
 use Rattle.gd_names.specs.declared.conflict.Conflict.{Conflict}
 use Rattle.gd_names.specs.declared.conflict.Settle.{Settle}

@@ -1,5 +1,5 @@
 -- What holds of every drive holds at the beginning and over each step, so whatever the log.
-use Rattle.std.proofs.Common.{◌≡◌, ℕ, ◌+◌, ◌-◌, ◌^◌, ◌<◌, ◌≤◌, Bool, true, false, cond, List, [], ◌∷◌, ◌++◌, length, is_none, Option, Some, None, refl, sym, ap, ◌∙◌, subst, arith}
+use Rattle.std.proofs.Common.{◌≡◌, ℕ, ◌+◌, ◌^◌, ◌<◌, ◌≤◌, Bool, true, false, cond, List, [], ◌∷◌, ◌++◌, length, is_none, Option, Some, None, refl, sym, ap, ◌∙◌, subst, arith}
 use Rattle.std.specs.List.{All}
 use Rattle.std.proofs.lemmas.Bool.{and_parts}
 use Rattle.std.proofs.lemmas.List.{length-append}
@@ -94,6 +94,9 @@ parts-of state every = record {
 }
 
 -- ---- a request
+pub number-rises : (effects more : List Effect) → (inventory effects).number ≤ (inventory (effects ++ more)).number
+number-rises effects more = omega (arith, number-inventory effects, number-inventory (effects ++ more), length-append effects more)
+
 parts-more : (state : State) (effects : List Effect) (sessions : List Session) (openers : List Who) → HasParts state → Follows (held state) effects (length openers) sessions
     → HasParts (record state { effects = state.effects ++ effects; sessions = sessions; openers = openers })
 parts-more state effects sessions openers parts follow =
@@ -110,9 +113,6 @@ parts-more state effects sessions openers parts follow =
       floor = omega (arith, low, number-rises state.effects effects);
       serving = follow.serving;
     }
-  where
-    number-rises : (effects more : List Effect) → (inventory effects).number ≤ (inventory (effects ++ more)).number
-    number-rises effects more = omega (arith, number-inventory effects, number-inventory (effects ++ more), length-append effects more)
 
 parts-request : (state : State) (who : Who) (request : Request) (served : Bool) → HasParts state → is_accepted state request served ≡ true → HasParts (after_request state who request)
 parts-request state who request served parts accepted =

@@ -1,6 +1,5 @@
 -- The feed has the changes of which it is made, and no other.
 use Rattle.std.proofs.Common.{◌≡◌, ◌≢◌, ◌⊎◌, ◌↔◌, inl, inr, ℕ, ◌<◌, Bool, true, false, ◌&&◌, cond, nat_eq, nat_lt, List, [], ◌∷◌, ◌++◌, refl, ap, sym, subst, ◌∙◌, arith}
-use Rattle.std.specs.BTreeMap.{insert_entry}
 use Rattle.std.specs.Cmp.{ranked}
 use Rattle.std.specs.List.{AllPairs, AllByRecursion, Contains}
 use Rattle.std.specs.Ordering.{nat_cmp, match_ordering}
@@ -17,7 +16,7 @@ use Rattle.gd_item.specs.declared.item.Item.{Item}
 use Rattle.gd_item.specs.declared.live.LiveItem.{LiveItem}
 use Rattle.gd_item.specs.declared.live.Tombstone.{Tombstone}
 use Rattle.gd_item.specs.declared.step.Step.{Step}
-use Rattle.gd_item.proofs.LogsFeed.{rises-feed}
+use Rattle.gd_item.proofs.LogsFeed.{put, rises-feed}
 use Rattle.gd_laws.specs.Changes.{IsRootEntry, IsEntry}
 use Rattle.gd_laws.proofs.Changes.{AreApart, AllApart, all-apart}
 use Rattle.gd_laws.proofs.Every.{every-drive}
@@ -25,9 +24,6 @@ use Rattle.gd_laws.proofs.Marks.{IsMarked, is-marked}
 use Rattle.gd_laws.proofs.Members.{SomeOf, Has, Paired, some-left, some-right, some-cases, each-has, any-from-some, some-from-any, contains-from-has, has-from-contains, paired, pairs-from}
 
 -- ---- one change put among others
-abbrev put : List (ℕ × Item) → ℕ → Item → List (ℕ × Item)
-put placed number item = insert_entry nat_cmp placed number item
-
 abbrev put_by : Ordering → ℕ → Item → ℕ × Item → List (ℕ × Item) → List (ℕ × Item)
 put_by o number item first placed = match_ordering o ((number, item) ∷ first ∷ placed) ((first.0, item) ∷ placed) (first ∷ put placed number item)
 

@@ -19,6 +19,7 @@ use Rattle.gd_item.specs.declared.live.LiveItem.{LiveItem}
 use Rattle.gd_item.specs.declared.step.Step.{Step}
 use Rattle.gd_item.proofs.Reaching.{IsChild, found-number, path-settled}
 use Rattle.gd_laws.proofs.Every.{every-drive}
+use Rattle.gd_item.proofs.Adding.{path-of-root}
 
 -- ---- one step up
 pub record IsUnder (nodes : List Node) (steps number : ℕ) (path : Path) : Type 0 where
@@ -64,13 +65,8 @@ none-under : (nodes : List Node) (number : ℕ) (path : Path) → nat_eq number 
 none-under nodes number path other h =
     let none : None ≡ Some path = sym (ap (λ b. cond b (Some []) None) other) ∙ h in cc none
 
--- at the root the path is empty, however many steps are left
-pub root-path : (steps : ℕ) (nodes : List Node) (number : ℕ) → nat_eq number 1 ≡ true → path_within steps nodes number ≡ Some []
-root-path zero nodes number root = ap (λ b. cond b (Some []) None) root
-root-path (suc steps) nodes number root = ap (λ b. cond b (Some []) (path_of_node (path_within steps nodes) nodes (node_at number nodes))) root
-
 root-empty : (nodes : List Node) (steps number : ℕ) (path : Path) → nat_eq number 1 ≡ true → path_within steps nodes number ≡ Some path → path ≡ []
-root-empty nodes steps number path root h = let same : Some path ≡ Some [] = sym h ∙ root-path steps nodes number root in cc same
+root-empty nodes steps number path root h = let same : Some path ≡ Some [] = sym h ∙ path-of-root steps nodes number root in cc same
 
 -- ---- names at the end of a path
 pub above-push : (above : Path) (name : List ℕ) → names_above (above ++ name ∷ []) ≡ above

@@ -60,7 +60,7 @@ asked-token state text token is =
 abbrev pub given_for : State → ℕ → Asked → Reply
 given_for state size a = cond (is_bad a) (refused (refuse 400 InvalidRequest)) (delta_reply state size a)
 
-unless-cond : (b : Bool) (r : Refusal) (state : State) (size : ℕ) (request : Request)
+pub unless-cond : (b : Bool) (r : Refusal) (state : State) (size : ℕ) (request : Request)
     → answer_unless (cond b (Some r) None) state size request ≡ cond b (refused r) (reply_to state (after_request state Own request) size request)
 unless-cond true r state size request = refl
 unless-cond false r state size request = refl

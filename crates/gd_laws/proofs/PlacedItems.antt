@@ -17,7 +17,8 @@ use Rattle.gd_names.proofs.Mapped.{mapped}
 use Rattle.gd_names.proofs.Ordered.{Path, In, all-in, all-in-order-from}
 use Rattle.gd_names.proofs.Small.{not-root}
 use Rattle.gd_laws.specs.Placed.{placed_items}
-use Rattle.gd_laws.proofs.Leading.{StandsUnder, stands-under, root-path, one-number}
+use Rattle.gd_laws.proofs.Leading.{StandsUnder, stands-under, one-number}
+use Rattle.gd_item.proofs.Adding.{path-of-root}
 
 abbrev pub item_bytes : LiveItem → Option (List ℕ)
 item_bytes item = item.bytes
@@ -136,7 +137,7 @@ IsLed tree path = (names_above path ≡ []) ⊎ In (names_above path, None) tree
 
 root-above : (held : Inventory) (parent : ℕ) (above : Path) → nat_eq parent 1 ≡ true → path_of (nodes_of held) parent ≡ Some above → above ≡ []
 root-above held parent above root led =
-    let top : Some above ≡ Some [] = sym led ∙ root-path (length (nodes_of held)) (nodes_of held) parent root in cc top
+    let top : Some above ≡ Some [] = sym led ∙ path-of-root (length (nodes_of held)) (nodes_of held) parent root in cc top
 
 led-at : (held : Inventory) → IsItemMap held → (entries : List (Path × LiveItem)) → AllByRecursion (IsAt held) entries
     → ((path : Path) → Key path (placed_items held) → Key path entries) → (entry : Path × LiveItem) → IsAt held entry → IsLed (mapped item_bytes entries) entry.0

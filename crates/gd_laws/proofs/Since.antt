@@ -1,7 +1,7 @@
 -- What effects since a position leave: an item that lives stands as it did then, or has a change number past the position,
 -- and one that lived then and lives no more was removed past it.
 use Rattle.std.proofs.Common.{◌≡◌, ℕ, ◌+◌, ◌<◌, ◌≤◌, ◌⊎◌, inl, inr, Bool, true, false, ◌&&◌, ◌||◌, cond, nat_eq, nat_lt, List, [], ◌∷◌, ◌++◌, Option, Some, None, refl, ap, sym, subst, ◌∙◌, arith}
-use Rattle.std.proofs.lemmas.Bool.{eqb-true, eq-eqb, lt-ltb}
+use Rattle.std.proofs.lemmas.Bool.{eqb-true, eq-eqb, lt-ltb, or_right}
 use Rattle.std.proofs.lemmas.List.Folds.{list_any-append}
 use Rattle.std.specs.List.{list_any}
 use Rattle.std.specs.Option.{option_map}
@@ -63,10 +63,6 @@ module _ (position start : ℕ) (base held : Inventory) (since : IsSince positio
   or-more n stones (inr was) =
       inr (list_any-append (is_removal n position start) held.removed stones ∙ ap (λ b. b || was_removed n position start stones) was)
 
-  first-or : (a b : Bool) → b ≡ true → (a || b) ≡ true
-  first-or true b is = refl
-  first-or false b is = is
-
   stone-there : (n : ℕ) (item : LiveItem) → start ≤ position → item.number ≡ n → was_removed n position start (tombstone_of (held.number + 1) (Some item)) ≡ true
   stone-there n item early at =
       let late : position ≤ held.number = since.late in
@@ -85,7 +81,7 @@ module _ (position start : ℕ) (base held : Inventory) (since : IsSince positio
       let has : item.number ≡ n = (of-living (λ (x : LiveItem). Unit {0}) n held.items item (each-always (λ (x : LiveItem). Unit {0}) (λ x. tt) held.items) there).1 in
       inr (ap (λ found. was_removed n position start (held.removed ++ tombstone_of (held.number + 1) found)) here
       ∙ list_any-append (is_removal n position start) held.removed (tombstone_of (held.number + 1) (Some item))
-      ∙ first-or (was_removed n position start held.removed) (was_removed n position start (tombstone_of (held.number + 1) (Some item))) (stone-there n item early has))
+      ∙ or_right (was_removed n position start held.removed) (was_removed n position start (tombstone_of (held.number + 1) (Some item))) (stone-there n item early has))
   gone-removed n number true None early at there is = or-more n (tombstone_of (held.number + 1) (live_at number held.items)) (since.gone n there)
   gone-removed n number false found early off there is =
       or-more n (tombstone_of (held.number + 1) (live_at number held.items)) (since.gone n (there ∙ is))

@@ -2,13 +2,11 @@
 -- numbers are at most the drive's, and one of them is at least the floor.
 use Rattle.std.proofs.Common.{◌≡◌, ◌⊎◌, inl, inr, ℕ, ◌-◌, ◌^◌, ◌<◌, ◌≤◌, zero, suc, Bool, true, false, ◌||◌, not, cond, nat_eq, nat_lt, List, [], ◌∷◌, ◌++◌, length, max, slice_index, codes, Option, Some, None, refl, ap, sym, subst, ◌∙◌, arith}
 use Rattle.std.proofs.lemmas.Bool.{and_parts, eq-eqb, le-ltb, ltb-true, or_from}
-use Rattle.std.proofs.lemmas.List.{length-append}
 use Rattle.std.specs.Cmp.Lexicographic.{pointwise}
 use Rattle.std.specs.List.{All, AllByRecursion, Any, list_all}
 use Rattle.std.specs.Map.{keys_of}
 use Rattle.gd_names.proofs.Small.{neither, not-below}
 use Rattle.gd_item.specs.Answers.{answer_of}
-use Rattle.gd_item.specs.Inventory.{Effect, inventory}
 use Rattle.gd_item.specs.Pages.{Asked, Past, Bad, Latest, Lost, asked, asked_unless, asked_by_token, page_past, latest_page, page_link}
 use Rattle.gd_item.specs.Records.{record_of, deleted_record, feed, last_of}
 use Rattle.gd_item.specs.Sessions.{State, new_state, held}
@@ -29,13 +27,12 @@ use Rattle.gd_item.specs.declared.step.Step.{Step}
 use Rattle.gd_item.specs.declared.step.Step.TheVariants.{Ask, Event}
 use Rattle.gd_item.specs.declared.step.Who.{Who}
 use Rattle.gd_item.specs.declared.token.Token.{Token}
-use Rattle.gd_item.proofs.Effects.{number-inventory}
 use Rattle.gd_item.proofs.LogsGrow.{after_steps-append}
 use Rattle.gd_item.proofs.ReadTokens.{token-read}
 use Rattle.gd_laws.specs.Changes.{IsEntry}
 use Rattle.gd_laws.specs.EveryDrive.{EveryDrive, IsGone}
 use Rattle.gd_laws.specs.Served.{is_page, is_served_token, is_token_safe}
-use Rattle.gd_laws.proofs.Every.{every-drive}
+use Rattle.gd_laws.proofs.Every.{every-drive, number-rises}
 use Rattle.gd_laws.proofs.Feeds.{feed-each}
 use Rattle.gd_laws.proofs.Marks.{is-marked}
 use Rattle.gd_laws.proofs.Pages.{given_for, given-page, asked-token}
@@ -248,9 +245,6 @@ module _ (old new : State) (keeps : KeepsTokens old new) where
 
 same-keeps : (state : State) → KeepsTokens state state
 same-keeps state = record { epoch = refl; floor = refl; number = omega arith }
-
-number-rises : (effects more : List Effect) → (inventory effects).number ≤ (inventory (effects ++ more)).number
-number-rises effects more = omega (arith, number-inventory effects, number-inventory (effects ++ more), length-append effects more)
 
 request-keeps : (state : State) (who : Who) (request : Request) (accepted : Bool) → KeepsTokens state (cond accepted (after_request state who request) state)
 request-keeps state who request true = record { epoch = refl; floor = refl; number = number-rises state.effects (effects_of state request) }

@@ -3,7 +3,7 @@
 use Rattle.std.proofs.Common.{◌≡◌, ℕ, ◌<◌, Bool, true, false, not, cond, nat_eq, List, [], ◌∷◌, length, filter, Option, Some, None, refl}
 use Rattle.std.proofs.lemmas.List.Elements.{All-filter, All-from_recursion, recursion_from_All}
 use Rattle.std.specs.List.{All, AllByRecursion}
-use Rattle.gd_names.specs.Ordered.{in_order_from, in_order}
+use Rattle.gd_names.specs.Ordered.{in_order_from}
 use Rattle.gd_names.proofs.Ordered.{Path, all-in-order-from}
 use Rattle.gd_item.specs.Nodes.{Node, path_of}
 use Rattle.gd_item.specs.Trees.{at_path, placed}

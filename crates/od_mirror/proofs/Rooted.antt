@@ -1,17 +1,14 @@
 -- The root's record in front of the nodes of a drive: it makes no path longer or other, and is nobody's twin.
-use Rattle.std.proofs.Common.{◌≡◌, ℕ, zero, suc, Bool, true, false, not, ◌&&◌, ◌||◌, cond, List, [], ◌∷◌, length, codes, is_some, nat_eq, nat_lt, Option, Some, None, refl, ap, ◌∙◌, arith}
-use Rattle.std.proofs.lemmas.Bool.Decides.{nat_tests}
+use Rattle.std.proofs.Common.{◌≡◌, ℕ, zero, suc, Bool, true, false, not, ◌&&◌, ◌||◌, cond, List, [], ◌∷◌, length, codes, is_some, nat_eq, nat_lt, Option, Some, None, refl, ap, ◌∙◌}
 use Rattle.gd_item.specs.Nodes.{Node, node_at, is_some_folder, is_folder, below, below_parent, path_of_node, path_within, path_of, is_same_parent, is_twin, has_twin}
 use Rattle.gd_item.proofs.Climbs.{path-longer}
 use Rattle.gd_names.specs.Caseless.{equal_caseless}
+use Rattle.gd_names.proofs.Small.{not-one}
 
 abbrev pub root_node : Node
 root_node = record { number = 1; parent = None; name = codes "root"; folder = true }
 
 -- ---- the root's node in front
-not-one : (number : ℕ) → nat_eq number 1 ≡ false → nat_eq 1 number ≡ false
-not-one number other = grind (arith, nat_tests)
-
 folder-at : (b : Bool) (parent : ℕ) (all : List Node) → nat_eq parent 1 ≡ b → (b || is_some_folder (node_at parent (root_node ∷ all))) ≡ (b || is_some_folder (node_at parent all))
 folder-at true parent all is = refl
 folder-at false parent all is = rw (not-one parent is) refl

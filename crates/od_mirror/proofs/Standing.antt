@@ -16,6 +16,7 @@ use Rattle.od_mirror.specs.Pulled.{nodes, is_misplaced, is_bad, AllFit, paths_of
 use Rattle.gd_names.proofs.Each.{AllPairs-tail, each, each-later, each-so, each-both}
 use Rattle.gd_names.proofs.Mapped.{mapped, in-order-mapped}
 use Rattle.od_mirror.proofs.Rooted.{root_node, path-with-root, root-has-none, root-is-none, no-later-twin}
+use Rattle.gd_names.proofs.Small.{not-root}
 
 -- ---- the records as nodes
 folder-kind : (bytes : Option (List ℕ)) (number : ℕ) (all : List LiveItem) → is_folder_kind (kind_at bytes number all) ≡ is_none bytes
@@ -148,9 +149,6 @@ module _ (held : Inventory) (sound : IsItemMap held) where
 kept-at : (b : Bool) (item : Item) (items : List Item) → b ≡ false → cond (not b) (item ∷ items) items ≡ item ∷ items
 kept-at true item items is = absurd (cc)
 kept-at false item items is = refl
-
-not-root : (number : ℕ) → 1 < number → nat_eq number 1 ≡ false
-not-root number above = grind (arith, nat_tests)
 
 all-kept : (all items : List LiveItem) → AllByRecursion (λ (item : LiveItem). 1 < item.number) items
     → filter (λ (item : Item). not (nat_eq item.id.0 1)) (map (record_of all) items) ≡ map (record_of all) items

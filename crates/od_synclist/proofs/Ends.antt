@@ -1,6 +1,6 @@
 -- Reaching an end is matching some of the first items.
-use Rattle.std.proofs.Common.{◌≡◌, ℕ, zero, suc, ◌-◌, ◌<◌, ◌≤◌, Bool, true, false, ◌&&◌, ◌||◌, List, [], ◌∷◌, ◌++◌, length, take, drop, map, nat_eq, nat_lt, refl, sym, ap, ◌∙◌, ◌⊎◌, inl, inr, arith, take_all, append-nil, length-drop}
-use Rattle.std.proofs.lemmas.Bool.{ne_eqb, cases_Bool, or_left, or_right, cases_order, false≢true}
+use Rattle.std.proofs.Common.{◌≡◌, ℕ, zero, suc, ◌-◌, ◌<◌, ◌≤◌, Bool, true, false, ◌&&◌, ◌||◌, List, [], ◌∷◌, ◌++◌, length, take, drop, map, nat_eq, nat_lt, refl, sym, ap, ◌∙◌, inl, inr, arith, take_all, append-nil, length-drop}
+use Rattle.std.proofs.lemmas.Bool.{ne_eqb, cases_Bool, or_cases, or_left, or_right, cases_order, false≢true}
 use Rattle.std.proofs.lemmas.Bool.Decides.{nat_tests}
 use Rattle.std.proofs.lemmas.List.{take-append-drop}
 use Rattle.std.specs.List.{list_any}
@@ -8,18 +8,11 @@ use Rattle.od_synclist.specs.Matching.{matches, is_any_path, matches_name, match
 use Rattle.od_synclist.specs.Rules.{folders_above}
 use Rattle.od_synclist.specs.Search.{reaches, tails, takes_first, is_end}
 use Rattle.od_synclist.proofs.Walking.{same_tests}
+use Rattle.gd_names.proofs.Small.{both}
 
 -- tests that hold
 or_none : (a : Bool) → (a || false) ≡ true → a ≡ true
 or_none a holds = grind arith
-
-either : (a b : Bool) → (a || b) ≡ true → (a ≡ true) ⊎ (b ≡ true)
-either true b holds = inl refl
-either false b holds = inr holds
-
-both : (a b : Bool) → (a && b) ≡ true → (a ≡ true) × (b ≡ true)
-both true b holds = (refl, holds)
-both false b holds = absurd (false≢true holds)
 
 here : {X : Type 0} (test : List X → Bool) (xs : List X) → test xs ≡ true → list_any test (tails xs) ≡ true
 here test [] holds = or_left _ _ holds
@@ -72,7 +65,7 @@ module _ {P N : Type 0} (is_run : P → Bool) (takes : P → N → Bool) where
   run_matched serves part parts run matched [] found =
       let some = matched [] (or_none (reaches is_run takes serves parts []) found) in
       record { count = some.count; within = some.within; matched = run_none part parts (take some.count []) run some.matched; served = some.served }
-  run_matched serves part parts run matched (item ∷ items) found = elim (either (reaches is_run takes serves parts (item ∷ items)) _ found) [
+  run_matched serves part parts run matched (item ∷ items) found = elim (or_cases (reaches is_run takes serves parts (item ∷ items)) _ found) [
     | inl here ↦
         let some = matched (item ∷ items) here in
         record { count = some.count; within = some.within; matched = run_none part parts (take some.count (item ∷ items)) run some.matched; served = some.served }
@@ -113,7 +106,7 @@ module _ {P N : Type 0} (is_run : P → Bool) (takes : P → N → Bool) where
   run_reached serves part parts run reached [] left found served =
       here (reaches is_run takes serves parts) left (reached [] left (rw run at found) served)
   run_reached serves part parts run reached (item ∷ first) left found served =
-      elim (either (matches is_run takes parts (item ∷ first)) (matches is_run takes (part ∷ parts) first) (rw run at found)) [
+      elim (or_cases (matches is_run takes parts (item ∷ first)) (matches is_run takes (part ∷ parts) first) (rw run at found)) [
         | inl here ↦ or_left _ _ (reached (item ∷ first) left here served)
         | inr later ↦ or_right _ _ (run_reached serves part parts run reached first left later served)
       ]
@@ -152,7 +145,7 @@ above_from_any : (test : List (List ℕ) → Bool) (names : List (List ℕ)) →
 above_from_any test [] found = absurd (false≢true found)
 above_from_any test (name ∷ []) found = absurd (false≢true found)
 above_from_any test (name ∷ (next ∷ names)) found =
-    elim (either (test (name ∷ [])) (list_any test (map (λ above. name ∷ above) (folders_above (next ∷ names)))) found) [
+    elim (or_cases (test (name ∷ [])) (list_any test (map (λ above. name ∷ above) (folders_above (next ∷ names)))) found) [
       | inl here ↦ record { count = 1; some = omega arith; below = omega arith; passes = here }
       | inr later ↦
           let above = above_from_any (λ above. test (name ∷ above)) (next ∷ names) (sym (any-map test (λ above. name ∷ above) (folders_above (next ∷ names))) ∙ later) in
@@ -201,7 +194,7 @@ entry_reached : (components names : List (List ℕ)) (whole : Bool) → (whole &
     → reaches is_any_path matches_name (is_end whole (length names)) components names ≡ true
 entry_reached components names whole found =
     let reach = reaches_from_matched is_any_path matches_name (is_end whole (length names)) components in
-    elim (either (whole && matches_path components names) (list_any (matches_path components) (folders_above names)) found) [
+    elim (or_cases (whole && matches_path components names) (list_any (matches_path components) (folders_above names)) found) [
       | inl itself ↦
           let pair = both whole (matches_path components names) itself in
           rw append-nil at (reach names [] pair.1 pair.0)

@@ -138,7 +138,7 @@ below-or-here true f is = absurd (cc is)
 below-or-here false true is = refl
 below-or-here false false is = refl
 
-lower-apart : (a b : Path) → path_cmp a b ≡ Less → is_path a b ≡ false
+pub lower-apart : (a b : Path) → path_cmp a b ≡ Less → is_path a b ≡ false
 lower-apart a b low = false-by (is_path a b) (λ same. absurd (cc (sym (tied_itself paths-total b) ∙ sym (ap (λ (p : Path). path_cmp p b) (same-path a b same)) ∙ low)))
 
 -- ---- entries

@@ -4,12 +4,12 @@ use Rattle.std.proofs.lemmas.List.{get_or-map, length-map}
 use Rattle.std.proofs.lemmas.List.Elements.{Contains-append_right}
 use Rattle.std.specs.List.{AllByRecursion, Contains, flat_map}
 use Rattle.gd_names.specs.Ordered.{in_order}
-use Rattle.gd_item.specs.Steps.{state_of, held_by, accepted_by}
+use Rattle.gd_item.specs.Steps.{held_by, accepted_by}
 use Rattle.gd_item.specs.Trees.{nodes_of}
 use Rattle.gd_item.specs.declared.live.LiveItem.{LiveItem}
 use Rattle.gd_item.specs.declared.live.Version.{Version}
 use Rattle.gd_item.specs.declared.step.Step.{Step}
-use Rattle.gd_names.proofs.Each.{each, each-so}
+use Rattle.gd_names.proofs.Each.{each-so}
 use Rattle.gd_names.proofs.Ordered.{all-in-order-from}
 use Rattle.gd_item.proofs.LogsGrow.{accepted-log}
 use Rattle.gd_item.proofs.LogsVersions.{IsKnown}

@@ -1,9 +1,9 @@
 -- A folder in memory goes on by one call, and what comes of calls where nothing is armed.
-use Rattle.std.proofs.Common.{◌≡◌, ◌⊎◌, inl, inr, ℕ, Bool, true, false, take, List, [], ◌∷◌, ◌++◌, Some, refl, ap, sym, subst, ◌∙◌}
+use Rattle.std.proofs.Common.{◌≡◌, inl, inr, ℕ, false, take, List, [], ◌∷◌, ◌++◌, Some, refl, ap, sym, subst, ◌∙◌}
 use Rattle.std.proofs.Math.Seq.{take-nil}
 use Rattle.std.proofs.lemmas.List.{append-nil, append_assoc}
 use Rattle.gd_names.proofs.Each.{each-append}
-use Rattle.od_tree.specs.GoingOn.{Begun, Called, FirstMade, GoesOn, Operated, Stays, Then, fails_next, failed_by, next_call}
+use Rattle.od_tree.specs.GoingOn.{Begun, Called, GoesOn, Stays, Then, fails_next, failed_by, next_call}
 use Rattle.od_tree.specs.Memory.{log_of}
 use Rattle.od_tree.specs.Tied.{kind_of, call_of, is_listed, with_tied}
 use Rattle.od_tree.specs.Undisturbed.{IsOp, NoUser, GrowsByOps}

@@ -12,7 +12,8 @@ use Rattle.od_tree.specs.declared.edit.UserEdit.TheVariants.{Write, Remove, Move
 use Rattle.od_tree.specs.declared.step.LocalStep.{LocalStep}
 use Rattle.od_tree.specs.declared.step.LocalStep.TheVariants.{User, Op}
 use Rattle.od_tree.proofs.Replacing.{stays_or_replaced, write_stands}
-use Rattle.od_tree.proofs.Staying.{or_true, or_left, or_right, any-front}
+use Rattle.od_tree.proofs.Staying.{any-front}
+use Rattle.std.proofs.lemmas.Bool.{or_cases, or_left, or_right}
 
 both : (a b : Bool) → a ≡ true → b ≡ true → (a && b) ≡ true
 both true b is_a is_b = is_b
@@ -51,7 +52,7 @@ safe-still versions log step write keeps safe =
     let longer : List LocalStep = log ++ step ∷ [] in
     let there : Bool = is_somewhere write.0 (local_of longer) || is_replaced write.0 longer in
     ⊎_elim (λ kept. or_left there (is_accepted write.1 versions) (stays_or_replaced log step write.0 keeps kept)) (λ sent. or_right there (is_accepted write.1 versions) sent)
-    (or_true (is_somewhere write.0 (local_of log) || is_replaced write.0 log) (is_accepted write.1 versions) safe)
+    (or_cases (is_somewhere write.0 (local_of log) || is_replaced write.0 log) (is_accepted write.1 versions) safe)
 
 new_safe : (versions : List Version) (log : List LocalStep) (at : List (List ℕ)) (bytes : List ℕ) (place : Bool) → place ≡ has_place (local_of log) (Write at bytes)
     → list_all (is_safe versions (log ++ User (Write at bytes) ∷ [])) (cond place ((length log, bytes) ∷ []) []) ≡ true
@@ -93,7 +94,7 @@ accepted-still versions later log write safe =
     let there : Bool = is_somewhere write.0 (local_of log) || is_replaced write.0 log in
     ⊎_elim (λ kept. or_left there (is_accepted write.1 (versions ++ later)) kept)
     (λ sent. or_right there (is_accepted write.1 (versions ++ later)) (any-front (λ (version : Version). pointwise nat_eq version.bytes write.1) versions later sent))
-    (or_true there (is_accepted write.1 versions) safe)
+    (or_cases there (is_accepted write.1 versions) safe)
 
 pub no_more_lost : (log more : List LocalStep) (versions later : List Version) → list_any is_discard more ≡ false → no_loss log versions ≡ true → no_loss (log ++ more) (versions ++ later) ≡ true
 no_more_lost log more versions later keep are =

@@ -9,8 +9,9 @@ use Rattle.od_tree.specs.declared.edit.UserEdit.TheVariants.{Write, Remove, Move
 use Rattle.od_tree.specs.declared.local.Spot.{Spot}
 use Rattle.od_tree.specs.declared.step.LocalStep.{LocalStep}
 use Rattle.od_tree.specs.declared.step.LocalStep.TheVariants.{User, Op}
-use Rattle.od_tree.proofs.Staying.{or_true, or_left, or_right, in_spots, at_path, in_holding, somewhere, any-front, any-last, any-moved, any-without, more_spots, stays_op}
+use Rattle.od_tree.proofs.Staying.{in_spots, at_path, in_holding, somewhere, any-front, any-last, any-moved, any-without, more_spots, stays_op}
 use Rattle.od_tree.proofs.Steps.{local-snoc}
+use Rattle.std.proofs.lemmas.Bool.{or_cases, or_left, or_right}
 
 -- the first entry at a path is one of those at it
 first_here : (n : ℕ) (spot : Spot) (others : List Spot) (here : Bool) (found : Option Spot) → (stems_from n (file_in found) ≡ true → in_spots n others ≡ true) → stems_from n (file_in (cond here (Some spot) found)) ≡ true
@@ -34,7 +35,7 @@ any-parted : (n : ℕ) (p : Spot → Bool) (spots : List Spot) → in_spots n sp
 any-parted n p [] is = inl is
 any-parted n p (spot ∷ spots) is =
     parted n spot (filter p spots) (filter (λ (s : Spot). not (p s)) spots) (p spot)
-    (⊎_elim (λ first. inl first) (λ later. inr (any-parted n p spots later)) (or_true (stems_from n spot.file) (in_spots n spots) is))
+    (⊎_elim (λ first. inl first) (λ later. inr (any-parted n p spots later)) (or_cases (stems_from n spot.file) (in_spots n spots) is))
 
 -- ---- an edit
 
@@ -107,7 +108,7 @@ stays_or_replaced log step n keeps is =
     (λ there.
     ⊎_elim (λ kept. or_left (is_somewhere n now) (is_replaced n (log ++ step ∷ [])) (ap (λ (local : Local). is_somewhere n local) (local-snoc log step) ∙ kept))
     (λ gone. or_right (is_somewhere n now) (is_replaced n (log ++ step ∷ [])) (again ∙ or_right (is_replaced n log) lost gone)) (step-keeps (length log) n (local_of log) step keeps there))
-    (λ before. or_right (is_somewhere n now) (is_replaced n (log ++ step ∷ [])) (again ∙ or_left (is_replaced n log) lost before)) (or_true (is_somewhere n (local_of log)) (is_replaced n log) is)
+    (λ before. or_right (is_somewhere n now) (is_replaced n (log ++ step ∷ [])) (again ∙ or_left (is_replaced n log) lost before)) (or_cases (is_somewhere n (local_of log)) (is_replaced n log) is)
 
 same_number : (n : ℕ) → nat_eq n n ≡ true
 same_number n = eq-eqb n n refl

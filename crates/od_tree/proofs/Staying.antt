@@ -16,18 +16,7 @@ use Rattle.od_tree.specs.declared.step.LocalStep.TheVariants.{User, Op}
 use Rattle.od_tree.specs.declared.step.TreeOp.{TreeOp}
 use Rattle.od_tree.specs.declared.step.TreeOp.TheVariants as op
 use Rattle.od_tree.proofs.Steps.{local-snoc}
-
-pub or_true : (a b : Bool) → (a || b) ≡ true → (a ≡ true) ⊎ (b ≡ true)
-or_true true b h = inl refl
-or_true false b h = inr h
-
-pub or_left : (a b : Bool) → a ≡ true → (a || b) ≡ true
-or_left true b h = refl
-or_left false b h = cc
-
-pub or_right : (a b : Bool) → b ≡ true → (a || b) ≡ true
-or_right true b h = refl
-or_right false b h = h
+use Rattle.std.proofs.lemmas.Bool.{or_cases, or_left, or_right}
 
 -- whether such a file stands at a path, or in holding
 abbrev pub in_spots : ℕ → List Spot → Bool
@@ -43,7 +32,7 @@ pub in_holding : (n : ℕ) (local : Local) → in_held n local.held ≡ true →
 in_holding n local is = or_right (in_spots n local.spots) (in_held n local.held) is
 
 pub somewhere : (n : ℕ) (local : Local) → is_somewhere n local ≡ true → (in_spots n local.spots ≡ true) ⊎ (in_held n local.held ≡ true)
-somewhere n local is = or_true (in_spots n local.spots) (in_held n local.held) is
+somewhere n local is = or_cases (in_spots n local.spots) (in_held n local.held) is
 
 pub any-front : {X : Type 0} (p : X → Bool) (xs ys : List X) → list_any p xs ≡ true → list_any p (xs ++ ys) ≡ true
 any-front p xs ys is = list_any-append p xs ys ∙ or_left (list_any p xs) (list_any p ys) is
@@ -58,10 +47,10 @@ any-moved n from to (spot ∷ spots) = ap (λ b. stems_from n spot.file || b) (a
 -- of the entries without the first at a path, or of that first one
 without_first : (n : ℕ) (spot : Spot) (spots rest : List Spot) (here : Bool) (found : Option Spot) → (in_spots n spots ≡ true → (in_spots n rest ≡ true) ⊎ (stems_from n (file_in found) ≡ true))
     → in_spots n (spot ∷ spots) ≡ true → (in_spots n (cond here spots (spot ∷ rest)) ≡ true) ⊎ (stems_from n (file_in (cond here (Some spot) found)) ≡ true)
-without_first n spot spots rest true found later is = ⊎_elim (λ first. inr first) (λ more. inl more) (or_true (stems_from n spot.file) (in_spots n spots) is)
+without_first n spot spots rest true found later is = ⊎_elim (λ first. inr first) (λ more. inl more) (or_cases (stems_from n spot.file) (in_spots n spots) is)
 without_first n spot spots rest false found later is =
     ⊎_elim (λ first. inl (or_left (stems_from n spot.file) (in_spots n rest) first)) (λ more. ⊎_elim (λ a. inl (or_right (stems_from n spot.file) (in_spots n rest) a)) (λ b. inr b) (later more))
-    (or_true (stems_from n spot.file) (in_spots n spots) is)
+    (or_cases (stems_from n spot.file) (in_spots n spots) is)
 
 pub any-without : (n : ℕ) (at : List (List ℕ)) (spots : List Spot) → in_spots n spots ≡ true → (in_spots n (without_spot at spots) ≡ true) ⊎ (stems_from n (file_at at spots) ≡ true)
 any-without n at [] is = inl is
@@ -74,10 +63,10 @@ stems_held n (Some file) = is_origin n file.file.origin
 
 without_first_held : (n : ℕ) (file : HeldFile) (held rest : List HeldFile) (here : Bool) (found : Option HeldFile) → (in_held n held ≡ true → (in_held n rest ≡ true) ⊎ (stems_held n found ≡ true))
     → in_held n (file ∷ held) ≡ true → (in_held n (cond here held (file ∷ rest)) ≡ true) ⊎ (stems_held n (cond here (Some file) found) ≡ true)
-without_first_held n file held rest true found later is = ⊎_elim (λ first. inr first) (λ more. inl more) (or_true (is_origin n file.file.origin) (in_held n held) is)
+without_first_held n file held rest true found later is = ⊎_elim (λ first. inr first) (λ more. inl more) (or_cases (is_origin n file.file.origin) (in_held n held) is)
 without_first_held n file held rest false found later is =
     ⊎_elim (λ first. inl (or_left (is_origin n file.file.origin) (in_held n rest) first))
-    (λ more. ⊎_elim (λ a. inl (or_right (is_origin n file.file.origin) (in_held n rest) a)) (λ b. inr b) (later more)) (or_true (is_origin n file.file.origin) (in_held n held) is)
+    (λ more. ⊎_elim (λ a. inl (or_right (is_origin n file.file.origin) (in_held n rest) a)) (λ b. inr b) (later more)) (or_cases (is_origin n file.file.origin) (in_held n held) is)
 
 any-without_held : (n number : ℕ) (held : List HeldFile) → in_held n held ≡ true → (in_held n (without_held number held) ≡ true) ⊎ (stems_held n (held_at number held) ≡ true)
 any-without_held n number [] is = inl is

@@ -1,6 +1,5 @@
-use Rattle.std.proofs.Common.{refl}
 use Rattle.od_tree.proofs.Steps.{begins-more}
-use Rattle.od_tree.proofs.Tied.{first-made, not-empty, tied-all, tied-next}
+use Rattle.od_tree.proofs.Tied.{first-made, not-empty, tied-next}
 use Rattle.od_tree.proofs.memory.make_edits.Goals as goal
 
 pub returns-in_err-make_due-clause-log : goal.returns-in_err-make_due-clause-log
