@@ -240,12 +240,12 @@ impl Items {
         first_changes(self.alloc, changes, most)
     }
 
-    /// The versions of a living item that are kept, the newest first.
-    fn kept_versions(&self, item: &LiveItem) -> Result<List<VersionInfo>, NoMemory>
-        ensures { IfOk result (λ found. live_at item.now.number self.now.items ≡ Some item.now → found ≡ reverse (map info_of (given_versions item.now.number self.now))) }
+    /// The versions of an item that are kept, the newest first.
+    fn kept_versions(&self, number: u64) -> Result<List<VersionInfo>, NoMemory>
+        ensures { IfOk result (λ found. found ≡ reverse (map info_of (given_versions number self.now))) }
     {
-        let mut infos = version_infos(self.alloc, self.replaced.as_slice(), item.number)?;
-        push_version(&mut infos, item)?;
+        let mut infos = version_infos(self.alloc, self.replaced.as_slice(), number)?;
+        push_version(&mut infos, item_at(self.items.as_slice(), number))?;
         infos.as_mut_slice().reverse();
         Ok(List::from_vec(infos))
     }
@@ -260,11 +260,8 @@ impl Items {
         if is_a_folder(self.items.as_slice(), number) {
             return Err(StoreFault::NotFile);
         }
-        match item_at(self.items.as_slice(), number) {
-            // It was told that the item is there.
-            None => unreachable!(),
-            Some(item) => Ok(self.kept_versions(item)?),
-        }
+        let found = self.kept_versions(number)?;
+        Ok(found)
     }
 
     /// How a name is settled in a folder.

@@ -188,7 +188,8 @@ impl Store {
             → (found.0 ≡ first_of most (feed (inventory log) position removed_after)) × (found.1 ≡ last_of most (feed (inventory log) position removed_after))) }
         ensures whole { IfOk result (λ found. most ≡ 2 ^ 64 - 1 → found.1 ≡ None) }
     {
-        self.items.changed_after(position, removed_after, most)
+        let found = self.items.changed_after(position, removed_after, most)?;
+        Ok(found)
     }
 
     /// Tells whether a file might be put, whatever its bytes and the drive's limits are.

@@ -1,6 +1,6 @@
 ghost use Rattle.std.specs.Prelude.{◌≡◌, ◌++◌, map, filter, IfOk, OnOk};
 ghost use Rattle.std.specs.Option.{option_copied};
-ghost use Rattle.gd_item.specs.Inventory.{version_in};
+ghost use Rattle.gd_item.specs.Inventory.{version_of};
 ghost use Rattle.gd_item.specs.Versions.{replaced_bytes as bytes_replaced, file_version, info_of};
 ghost use Rattle.gd_laws.specs.Given.{is_version_of};
 
@@ -60,10 +60,16 @@ pub fn version_infos(
     Ok(infos)
 }
 
-/// Puts the version that stands in an item behind the others. A folder has none.
-pub fn push_version(infos: &mut Vec<VersionInfo>, item: &LiveItem) -> Result<(), NoMemory>
-    ensures { OnOk result (infos.new.items ≡ infos.old.items ++ map info_of (version_in item.now item.now.bytes)) }
+/// Puts the version that stands in an item behind the others, if the item is there and a file.
+pub fn push_version(
+    infos: &mut Vec<VersionInfo>,
+    item: Option<&LiveItem>,
+) -> Result<(), NoMemory>
+    ensures { OnOk result (infos.new.items ≡ infos.old.items ++ map info_of (version_of (option_copied item.entry))) }
 {
+    let Some(item) = item else {
+        return Ok(());
+    };
     match &item.bytes {
         None => {}
         Some(bytes) => infos.push(VersionInfo {
