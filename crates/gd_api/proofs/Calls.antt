@@ -19,7 +19,7 @@ use Rattle.gd_item.specs.declared.item.Item.{Item}
 use Rattle.gd_item.specs.declared.live.LiveItem.{LiveItem}
 use Rattle.gd_item.specs.declared.reply.Reply.TheVariants as reply
 use Rattle.gd_item.proofs.Effects.{inventory-snoc}
-use Rattle.gd_store.specs.Stands.{Stands, Answers, record_after, given_unless}
+use Rattle.gd_store.specs.Stands.{StoreValue, Stands, Answers, record_after, given_unless}
 use Rattle.gd_store.proofs.Given.{given-ok}
 use Rattle.gd_api.specs.Replies.{Steps, last_item_name}
 
@@ -29,25 +29,25 @@ id-found None id h = absurd cc
 id-found (Some n) id h = let same : item_id n ≡ id = cc in ap Some (ap (λ (i : ItemId). i.0) same)
 
 -- the record that a step gives is its reply
-stepped : (store : Inventory) (log : List Effect) (effect : Effect) (item : Item) → record_after (inventory log) effect ≡ Some item → Stands store (log ++ effect ∷ [])
-    → Steps store log (effect ∷ []) (made_or_is (is_made effect) item)
-stepped store log effect item is stands =
+stepped : (store : StoreValue) (epoch floor : ℕ) (log : List Effect) (effect : Effect) (item : Item) → record_after (inventory log) effect ≡ Some item → Stands store (log ++ effect ∷ []) epoch floor
+    → Steps store epoch floor log (effect ∷ []) (made_or_is (is_made effect) item)
+stepped store epoch floor log effect item is stands =
     let after : record_at (touched (inventory log) effect) true (inventory (log ++ effect ∷ [])) ≡ Some item =
     ap (λ held. record_at (touched (inventory log) effect) true held) (inventory-snoc log effect) ∙ is in
     record { replied = sym (ap (about (made_or_is (is_made effect))) after); stands = stands }
 
-pub item-stepped : (store : Inventory) (log : List Effect) (refusal : Option StoreFault) (effect : Effect) (item : Item) (made : Bool) → is_made effect ≡ made
-    → Answers refusal (Ok item) (λ item. (record_after (inventory log) effect ≡ Some item) × Stands store (log ++ effect ∷ []))
-    → Answers refusal (Ok (made_or_is made item)) (Steps store log (effect ∷ []))
-item-stepped store log refusal effect item made is answer =
-    let P : Bool → Type 0 = λ b. Steps store log (effect ∷ []) (made_or_is b item) in
-    record { ok = (answer.ok.0, subst P is (stepped store log effect item answer.ok.1.0 answer.ok.1.1)); err = tt }
+pub item-stepped : (store : StoreValue) (epoch floor : ℕ) (log : List Effect) (refusal : Option StoreFault) (effect : Effect) (item : Item) (made : Bool) → is_made effect ≡ made
+    → Answers refusal (Ok item) (λ item. (record_after (inventory log) effect ≡ Some item) × Stands store (log ++ effect ∷ []) epoch floor)
+    → Answers refusal (Ok (made_or_is made item)) (Steps store epoch floor log (effect ∷ []))
+item-stepped store epoch floor log refusal effect item made is answer =
+    let P : Bool → Type 0 = λ b. Steps store epoch floor log (effect ∷ []) (made_or_is b item) in
+    record { ok = (answer.ok.0, subst P is (stepped store epoch floor log effect item answer.ok.1.0 answer.ok.1.1)); err = tt }
 
-pub item-put : (store : Inventory) (log : List Effect) (refusal : Option StoreFault) (effect : Effect) (put : Item × Bool) (made : Bool) → put.1 ≡ made
-    → Answers refusal (Ok put) (λ put. (record_after (inventory log) effect ≡ Some put.0) × (put.1 ≡ is_made effect) × Stands store (log ++ effect ∷ []))
-    → Answers refusal (Ok (made_or_is made put.0)) (Steps store log (effect ∷ []))
-item-put store log refusal effect put made is answer =
-    item-stepped store log refusal effect put.0 made (sym answer.ok.1.1 ∙ is) (record { ok = (answer.ok.0, (answer.ok.1.0, answer.ok.1.2)); err = tt })
+pub item-put : (store : StoreValue) (epoch floor : ℕ) (log : List Effect) (refusal : Option StoreFault) (effect : Effect) (put : Item × Bool) (made : Bool) → put.1 ≡ made
+    → Answers refusal (Ok put) (λ put. (record_after (inventory log) effect ≡ Some put.0) × (put.1 ≡ is_made effect) × Stands store (log ++ effect ∷ []) epoch floor)
+    → Answers refusal (Ok (made_or_is made put.0)) (Steps store epoch floor log (effect ∷ []))
+item-put store epoch floor log refusal effect put made is answer =
+    item-stepped store epoch floor log refusal effect put.0 made (sym answer.ok.1.1 ∙ is) (record { ok = (answer.ok.0, (answer.ok.1.0, answer.ok.1.2)); err = tt })
 
 -- a folder that is made is a new item
 pub folder-is-made : (parent : ℕ) (name : List ℕ) (settle : Settle) → is_made (folder_effect parent name settle) ≡ true

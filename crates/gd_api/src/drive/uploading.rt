@@ -6,7 +6,7 @@ ghost use Rattle.gd_api.specs.Replies.{whole_answer};
 
 use crate::drive::{Drive, make_reply, make_session_reply};
 use crate::uploads;
-use gd_item::{Address, Condition, ErrorCode, Reply};
+use gd_item::{Address, Condition, ErrorCode, Reply, Request};
 use gd_names::{Bytes, Conflict, Text};
 use gd_upload::Progress;
 

@@ -6,7 +6,7 @@ use Rattle.gd_api.proofs.steps.make_folder_in.Goals as goal
 
 pub returns-clause-answer : goal.returns-clause-answer
 returns-clause-answer c =
-    λ log stands.
-    item-stepped c.make_folder_and_get.new.self log (make_folder_refusal (inventory log) c.args.parent.0 c.args.name.now c.args.behaviour)
+    λ log epoch floor stands.
+    item-stepped c.make_folder_and_get.new.self epoch floor log (make_folder_refusal (inventory log) c.args.parent.0 c.args.name.now c.args.behaviour)
     (make_folder_effect (inventory log) c.args.parent.0 c.args.name.now c.args.behaviour) c.in_ok-item.item true
-    (folder-is-made c.args.parent.0 c.args.name.now (settled_in (inventory log) c.args.parent.0 c.args.name.now c.args.behaviour true)) (c.in_ok-item.ensures.answer log stands)
+    (folder-is-made c.args.parent.0 c.args.name.now (settled_in (inventory log) c.args.parent.0 c.args.name.now c.args.behaviour true)) (c.in_ok-item.ensures.answer log epoch floor stands)
