@@ -9,8 +9,10 @@ use Rattle.gd_item.specs.Children.{children_past, first_children, has_more_child
 use Rattle.gd_item.specs.Ids.{item_id}
 use Rattle.gd_item.specs.Inventory.{Inventory, Effect, live_at, inventory}
 use Rattle.gd_item.specs.Nodes.{live_node, node_at}
+use Rattle.gd_item.specs.Places.{last_name}
 use Rattle.gd_item.specs.Records.{record_at, record_with}
 use Rattle.gd_item.specs.Refusals.{touched, is_made, file_refusal, folder_effect}
+use Rattle.gd_item.specs.Targets.{name_in_path}
 use Rattle.gd_item.specs.Versions.{content_of, content_at}
 use Rattle.gd_item.specs.declared.fault.StoreFault.{StoreFault}
 use Rattle.gd_item.specs.declared.fault.StoreFault.TheVariants.{NotFound, NotFile}
@@ -121,3 +123,15 @@ children-listed held earlier size parent items more next given follows named =
     let told : next ≡ next_child parent earlier size held =
     named ∙ ap (λ b. cond b (last_item_name items) None) follows ∙ ap (λ n. cond (has_more_children parent earlier size held) n None) last in
     ap (λ (i : List Item). reply.Listed i next) given ∙ ap (λ n. reply.Listed (first_children parent earlier size held) n) told
+
+-- the last of some names
+last-name : (names : List (List ℕ)) (last : List ℕ) → 0 < length names → last ≡ get_or names (length names - 1) last → last ≡ last_name names
+last-name [] last some is = absurd (omega arith)
+last-name (name ∷ []) last some is = is
+last-name (name ∷ next ∷ names) last some is =
+    let before : length (name ∷ next ∷ names) - 1 ≡ suc (length (next ∷ names) - 1) = omega arith in
+    last-name (next ∷ names) last (omega arith) (is ∙ ap (λ n. get_or (name ∷ next ∷ names) n last) before)
+
+pub last-in-path : (names : List (List ℕ)) (last : List ℕ) → 0 < length names → last ≡ get_or names (length names - 1) last → Some last ≡ name_in_path names
+last-in-path [] last some is = absurd (omega arith)
+last-in-path (name ∷ names) last some is = ap Some (last-name (name ∷ names) last some is)

@@ -1,5 +1,5 @@
 -- What requests about upload sessions do to a drive.
-use Rattle.std.proofs.Common.{◌≡◌, ℕ, ◌+◌, ◌-◌, ◌^◌, Bool, true, false, not, ◌&&◌, ◌||◌, cond, nat_eq, nat_le, List, [], ◌∷◌, ◌++◌, length, map, Option, Some, None, Result, Ok, Err, IfOk, OnErr, refl, sym, ap, ◌∙◌, subst, inl, inr, append-nil, arith}
+use Rattle.std.proofs.Common.{◌≡◌, ℕ, ◌+◌, ◌-◌, ◌^◌, Bool, true, false, not, ◌&&◌, ◌||◌, cond, nat_eq, nat_le, List, [], ◌∷◌, ◌++◌, length, map, Option, Some, None, Result, Ok, Err, IfOk, OnOk, OnErr, refl, sym, ap, ◌∙◌, subst, inl, inr, append-nil, arith}
 use Rattle.std.specs.Option.{option_map}
 use Rattle.std.proofs.lemmas.Bool.{cases_Bool}
 use Rattle.std.proofs.lemmas.List.{length_push}
@@ -48,9 +48,9 @@ pub refused-given : {T U : Type 0} (found : Option Session) (fault : SessionFaul
 refused-given None fault value other is = let same : fault ≡ NoSession = cc in ap (λ f. Err f) same
 refused-given (Some session) fault value other is = absurd cc
 
-pub done-given : (found : Option Session) → Ok tt ≡ upload.given_unless (not_living found) tt → Ok reply.Done ≡ upload.given_unless (not_living found) reply.Done
-done-given None is = absurd cc
-done-given (Some session) is = refl
+pub done-given : (found : Option Session) (none : Unit {0}) → Ok none ≡ upload.given_unless (not_living found) none → Ok reply.Done ≡ upload.given_unless (not_living found) reply.Done
+done-given None none is = absurd cc
+done-given (Some session) none is = refl
 
 pub count-given : (found : Option Session) (count : ℕ) → Ok count ≡ upload.given_unless (not_living found) (length (filled_in found)) → count ≡ length (filled_in found)
 count-given None count is = absurd cc
@@ -59,6 +59,18 @@ count-given (Some session) count is = cc
 pub none-counted : (found : Option Session) (fault : SessionFault) → Err fault ≡ upload.given_unless (not_living found) (length (filled_in found)) → 0 ≡ length (filled_in found)
 none-counted None fault is = refl
 none-counted (Some session) fault is = absurd cc
+
+pub same-sessions : (old : SessionsValue) (result : Result Reply SessionFault) → OnErr result (old ≡ old)
+same-sessions old (Ok given) = tt
+same-sessions old (Err why) = refl
+
+-- a session is cancelled, whoever asks
+pub cancel-told : {Stays : Type 0} (fault : Option SessionFault) (result : Result Reply SessionFault) → result ≡ upload.given_unless fault reply.Done → OnOk result Stays
+    → upload.Answers fault result (λ r. (r ≡ reply.Done) × ((who : Who) → Stays))
+cancel-told None (Ok r) is ok = record { ok = (refl, (cc, λ who. ok)); err = tt }
+cancel-told None (Err f) is ok = absurd cc
+cancel-told (Some fault) (Ok r) is ok = absurd cc
+cancel-told (Some fault) (Err f) is ok = let same : fault ≡ f = cc in record { ok = tt; err = inr (ap Some same) }
 
 -- ---- a session that is opened
 other-name : (state : State) (at : Address) (name : Option (List ℕ)) (behaviour : Conflict) (condition : Condition) (defer : Bool) → is_unlike name (name_in at) ≡ true

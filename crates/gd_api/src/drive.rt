@@ -35,11 +35,13 @@ pub struct Drive {
 }
 
 impl Model for Drive {
-    ghost use Rattle.gd_api.specs.Drives.{DriveValue};
+    ghost use Rattle.gd_api.specs.Drives.{DriveValue, IsPageSize};
 
     ghost Value = { DriveValue };
 
     ghost view = { λ d. record { store = d.store; sessions = d.sessions; size = d.size; plain = d.plain } };
+
+    ghost invariant = { λ d. IsPageSize d.size };
 }
 
 /// The reply that a call's result makes.
