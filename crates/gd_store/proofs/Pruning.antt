@@ -104,8 +104,8 @@ removals-above floor position start (stone ∷ stones) le =
           ih ∙ sym (ap (λ b. cond b (entry ∷ removals position start stones) (removals position start stones)) off)
     ]) refl
   where
-  not-both : (floor position start change : ℕ) → floor ≤ max position start → nat_lt floor change ≡ false → (nat_lt position change && nat_lt start change) ≡ false
-  not-both floor position start change le is = grind (arith, nat_tests)
+    not-both : (floor position start change : ℕ) → floor ≤ max position start → nat_lt floor change ≡ false → (nat_lt position change && nat_lt start change) ≡ false
+    not-both floor position start change le is = grind (arith, nat_tests)
 
 pub feed-pruned : (floor : ℕ) (held : Inventory) (position start : ℕ) → floor ≤ max position start → feed (pruned floor held) position start ≡ feed held position start
 feed-pruned floor held position start le =

@@ -212,7 +212,11 @@ impl Items {
     }
 
     /// The records past a position, and those of what was removed past both numbers, by change number.
-    pub fn changes(&self, position: u64, removed_after: u64) -> Result<BTreeMap<u64, Item>, NoMemory>
+    pub fn changes(
+        &self,
+        position: u64,
+        removed_after: u64,
+    ) -> Result<BTreeMap<u64, Item>, NoMemory>
         ensures { IfOk result (λ changes. changes.entries ≡ feed self.now position removed_after) }
     {
         let items = self.items.as_slice();

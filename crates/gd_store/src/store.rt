@@ -241,14 +241,9 @@ impl Store {
     {
         match place {
             Place::Over(id) => self.items.put_over(id.0, bytes, condition, session_bytes),
-            Place::Under(id, name) => self.items.put_under(
-                id.0,
-                name,
-                bytes,
-                behaviour,
-                condition,
-                session_bytes,
-            ),
+            Place::Under(id, name) => self
+                .items
+                .put_under(id.0, name, bytes, behaviour, condition, session_bytes),
         }
     }
 
@@ -310,15 +305,12 @@ impl Store {
         ensures kept { OnErr result (self.new ≡ self.old) }
     {
         match place {
-            Place::Over(id) => self.items.put_over_and_get(id.0, bytes, condition, session_bytes),
-            Place::Under(id, name) => self.items.put_under_and_get(
-                id.0,
-                name,
-                bytes,
-                behaviour,
-                condition,
-                session_bytes,
-            ),
+            Place::Over(id) => self
+                .items
+                .put_over_and_get(id.0, bytes, condition, session_bytes),
+            Place::Under(id, name) => self
+                .items
+                .put_under_and_get(id.0, name, bytes, behaviour, condition, session_bytes),
         }
     }
 

@@ -61,10 +61,7 @@ pub fn version_infos(
 }
 
 /// Puts the version that stands in an item behind the others, if the item is there and a file.
-pub fn push_version(
-    infos: &mut Vec<VersionInfo>,
-    item: Option<&LiveItem>,
-) -> Result<(), NoMemory>
+pub fn push_version(infos: &mut Vec<VersionInfo>, item: Option<&LiveItem>) -> Result<(), NoMemory>
     ensures { OnOk result (infos.new.items ≡ infos.old.items ++ map info_of (version_of (option_copied item.entry))) }
 {
     let Some(item) = item else {
