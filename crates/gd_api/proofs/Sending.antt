@@ -74,10 +74,10 @@ cancel-told (Some fault) (Ok r) is ok = absurd cc
 cancel-told (Some fault) (Err f) is ok = let same : fault ≡ f = cc in record { ok = tt; err = inr (ap Some same) }
 
 -- ---- a session that is opened
-pub begun-told : (old new : SessionsValue) (number : ℕ) (list : List Session) (openers : ℕ) (place : Place) (behaviour : Conflict) (copy condition : Condition) (defer : Bool) → copy ≡ condition
+pub begun-told : (new : SessionsValue) (number : ℕ) (list : List Session) (openers : ℕ) (place : Place) (behaviour : Conflict) (copy condition : Condition) (defer : Bool) → copy ≡ condition
     → upload.Answers (begin_fault list openers) (Ok number) (λ n. (n ≡ openers + 1) × upload.Stands new (opened (openers + 1) (Some place) behaviour copy defer list) (openers + 1))
     → upload.Answers {T = Reply} (begin_fault list openers) (Ok (reply.Session number 0)) (λ r. (r ≡ reply.Session (openers + 1) 0) × upload.Stands new (opened (openers + 1) (Some place) behaviour condition defer list) (openers + 1))
-begun-told old new number list openers place behaviour copy condition defer same told = record {
+begun-told new number list openers place behaviour copy condition defer same told = record {
   ok = (told.ok.0, (ap (λ n. reply.Session n 0) told.ok.1.0, subst (λ c. upload.Stands new (opened (openers + 1) (Some place) behaviour c defer list) (openers + 1)) same told.ok.1.1));
   err = tt;
 }
