@@ -123,8 +123,8 @@ pub begun : (inside : DriveValue) (left : SessionsValue) (log : List Step) (at :
     (result : Result Reply SessionFault) (given : Reply) → is_unlike name (name_in at) ≡ false → given ≡ session_reply_of result → Has inside (state_of log)
     → place-fault (state_of log) at behaviour condition ≡ None → place_of (held (state_of log)) at ≡ Some place
     → upload.Answers (begin_fault (state_of log).sessions (length (state_of log).openers)) result
-      (λ r. (r ≡ reply.Session (length (state_of log).openers + 1) 0)
-      × upload.Stands left (opened (length (state_of log).openers + 1) (Some place) behaviour condition defer (state_of log).sessions) (length (state_of log).openers + 1))
+    (λ r. (r ≡ reply.Session (length (state_of log).openers + 1) 0)
+    × upload.Stands left (opened (length (state_of log).openers + 1) (Some place) behaviour condition defer (state_of log).sessions) (length (state_of log).openers + 1))
     → OnErr result (left ≡ inside.sessions) → Serving inside (record inside { sessions = left }) log (OpenSession at name behaviour condition defer) given
 begun inside left log at name behaviour condition defer place result given is made has allowed found told kept =
     let state = state_of log in
@@ -134,10 +134,13 @@ begun inside left log at name behaviour condition defer place result given is ma
     let number : ℕ = length state.openers + 1 in
     uploaded inside left log request (begin_fault state.sessions (length state.openers)) result given made has cause refl
     (session-answers-so (begin_fault state.sessions (length state.openers)) result
-    (λ r so. (so.0, λ who.
-      let long : length (state.openers ++ who ∷ []) ≡ number = length_push state.openers who in
-      subst (λ n. upload.Stands left (opened number (place_of (held state) at) behaviour condition defer state.sessions) n) (sym long)
-      (subst (λ p. upload.Stands left (opened number p behaviour condition defer state.sessions) number) (sym found) so.1)))
+    (λ r so. (
+      so.0,
+      λ who.
+          let long : length (state.openers ++ who ∷ []) ≡ number = length_push state.openers who in
+          subst (λ n. upload.Stands left (opened number (place_of (held state) at) behaviour condition defer state.sessions) n) (sym long)
+          (subst (λ p. upload.Stands left (opened number p behaviour condition defer state.sessions) number) (sym found) so.1),
+    ))
     told) kept
 
 -- ---- a fragment
@@ -183,7 +186,7 @@ more-effects state session first last total bytes (Some open_session) at off =
 
 pub more-kept : (inside : DriveValue) (left : SessionsValue) (log : List Step) (session first last total : ℕ) (bytes : List ℕ) (expected : ℕ) → Has inside (state_of log)
     → upload.Answers (fragment_fault (held (state_of log)).kept (state_of log).sessions (session_at session (state_of log).sessions) first last total bytes) (Ok (More expected))
-      (Received inside.sessions left (state_of log).sessions (length (state_of log).openers) session last total bytes)
+    (Received inside.sessions left (state_of log).sessions (length (state_of log).openers) session last total bytes)
     → Serving inside (record inside { sessions = left }) log (Fragment session first last total bytes) (reply.More expected)
 more-kept inside left log session first last total bytes expected has told =
     let state = state_of log in
@@ -223,8 +226,8 @@ pub file-made : (inside : DriveValue) (new : StoreValue) (left : SessionsValue) 
     → sessions_of (state_of log) request ≡ without_session number (state_of log).sessions → ((who : Who) → openers_of (state_of log) who request ≡ (state_of log).openers)
     → effect_reply (held (state_of log)) (held (after_request (state_of log) Own request)) other (effects_of (state_of log) request) ≡ reply_to (state_of log) (after_request (state_of log) Own request) inside.size request
     → store.Answers (commit_refusal (state_of log) session bytes) result
-      (λ r. Steps new (state_of log).epoch (state_of log).floor (state_of log).effects (commit_effect (state_of log) session bytes ∷ []) r
-      × upload.Stands left (without_session number (state_of log).sessions) (length (state_of log).openers))
+    (λ r. Steps new (state_of log).epoch (state_of log).floor (state_of log).effects (commit_effect (state_of log) session bytes ∷ []) r
+    × upload.Stands left (without_session number (state_of log).sessions) (length (state_of log).openers))
     → OnErr result ((new ≡ inside.store) × (left ≡ inside.sessions)) → Serving inside (record inside { store = new; sessions = left }) log request given
 file-made inside new left log request number session bytes other result given made has cause effects list same says told kept =
     let state = state_of log in
@@ -241,7 +244,7 @@ abbrev pub Commits : StoreValue → StoreValue → SessionsValue → SessionsVal
 Commits old new live left number bytes result = (log : List Effect) (epoch floor : ℕ) (list : List Session) (openers : ℕ) (session : Session) → store.Stands old log epoch floor → upload.Stands live list openers
     → session_at number list ≡ Some session
     → store.Answers (put_refusal (inventory log) session.place bytes session.behaviour session.condition (held_bytes list - length session.filled)) result
-      (λ r. Steps new epoch floor log (put_effect (inventory log) session.place bytes session.behaviour ∷ []) r × upload.Stands left (without_session number list) openers)
+    (λ r. Steps new epoch floor log (put_effect (inventory log) session.place bytes session.behaviour ∷ []) r × upload.Stands left (without_session number list) openers)
 
 -- a fragment that completes it
 last-cause : (state : State) (session first last total : ℕ) (bytes : List ℕ) (found : Option Session) (open_session : Session) → session_at session state.sessions ≡ found → found ≡ Some open_session
@@ -261,7 +264,7 @@ last-effects state session first last total bytes open_session at on =
 pub whole-made : (inside : DriveValue) (new : StoreValue) (live left : SessionsValue) (log : List Step) (session first last total : ℕ) (bytes all : List ℕ) (result : Result Reply StoreFault) (given : Reply)
     → given ≡ reply_of result → Has inside (state_of log)
     → upload.Answers (fragment_fault (held (state_of log)).kept (state_of log).sessions (session_at session (state_of log).sessions) first last total bytes) (Ok (Whole all))
-      (Received inside.sessions live (state_of log).sessions (length (state_of log).openers) session last total bytes)
+    (Received inside.sessions live (state_of log).sessions (length (state_of log).openers) session last total bytes)
     → Commits inside.store new live left session all result → OnErr result ((new ≡ inside.store) × (left ≡ live))
     → Serving inside (record inside { store = new; sessions = left }) log (Fragment session first last total bytes) given
 whole-made inside new live left log session first last total bytes all result given made has told commits kept =
@@ -337,7 +340,7 @@ pub put-so : (new : StoreValue) (log : List Effect) (epoch floor : ℕ) (list : 
     → target ≡ target_in session → others ≡ held_bytes list - length (filled_in (session_at number list)) → session_at number list ≡ Some session
     → store.Answers (put_refusal (inventory log) target.place bytes target.behaviour target.condition others) result (Steps new epoch floor log (put_effect (inventory log) target.place bytes target.behaviour ∷ []))
     → store.Answers (put_refusal (inventory log) session.place bytes session.behaviour session.condition (held_bytes list - length session.filled)) result
-      (Steps new epoch floor log (put_effect (inventory log) session.place bytes session.behaviour ∷ []))
+    (Steps new epoch floor log (put_effect (inventory log) session.place bytes session.behaviour ∷ []))
 put-so new log epoch floor list bytes target others number session result is count found told =
     let P : Target → ℕ → Type 0 = λ t n. store.Answers (put_refusal (inventory log) t.place bytes t.behaviour t.condition n) result (Steps new epoch floor log (put_effect (inventory log) t.place bytes t.behaviour ∷ [])) in
     let same : others ≡ held_bytes list - length session.filled = count ∙ ap (λ f. held_bytes list - length (filled_in f)) found in
@@ -367,7 +370,7 @@ commit-kept drive inside new live left (Err why) given is made served kept same 
 
 pub fragment-failed : (inside : DriveValue) (left : SessionsValue) (log : List Step) (session first last total : ℕ) (bytes : List ℕ) (why : SessionFault) (given : Reply) → given ≡ session_reply_of (Err why) → Has inside (state_of log)
     → upload.Answers (fragment_fault (held (state_of log)).kept (state_of log).sessions (session_at session (state_of log).sessions) first last total bytes) (Err why)
-      (Received inside.sessions left (state_of log).sessions (length (state_of log).openers) session last total bytes)
+    (Received inside.sessions left (state_of log).sessions (length (state_of log).openers) session last total bytes)
     → left ≡ inside.sessions → Serving inside (record inside { sessions = left }) log (Fragment session first last total bytes) given
 fragment-failed inside left log session first last total bytes why given made has told kept =
     let whole : record inside { sessions = left } ≡ inside = ap (λ (l : SessionsValue). record inside { sessions = l }) kept in

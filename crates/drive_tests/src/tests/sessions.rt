@@ -241,7 +241,11 @@ fn the_feed_comes_in_pages(rt: HostRuntime) -> Result<(), Fail> {
         ("t1.5.1", "400"),
         ("t01.2.3", "400"),
     ] {
-        assert_eq!(rt; page_end(alloc, &mut drive, token)?.as_str(), end, "{token}");
+        assert_eq!(rt;
+            page_end(alloc, &mut drive, token)?.as_str(),
+            end,
+            "{token}"
+        );
     }
     Ok(())
 }
