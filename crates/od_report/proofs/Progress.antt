@@ -1,5 +1,5 @@
 -- A loop that changes the elements of a list one after another, and may stop.
-use Rattle.std.proofs.Common.{◌≡◌, ℕ, ◌+◌, ◌<◌, ◌≤◌, List, [], ◌∷◌, ◌++◌, length, take, drop, set, get_or, refl, sym, ◌∙◌, subst, ap, arith, Result, Ok, Err, OnErr}
+use Rattle.std.proofs.Common.{◌≡◌, ℕ, ◌+◌, ◌<◌, List, [], ◌∷◌, ◌++◌, length, take, drop, set, get_or, sym, ◌∙◌, ap, arith, Result, Ok, Err, OnErr}
 use Rattle.std.specs.List.{AllZip}
 use Rattle.std.proofs.lemmas.List.{take_more, take_more_set, take-set, drop_more, drop-set, drop-set-lt, get_or-drop, length-set}
 use Rattle.std.proofs.lemmas.List.Elements.{AllZip-push}
@@ -26,7 +26,7 @@ pub one_done : {A : Type 0} (R : A → A → Type 0) (before now : List A) (i : 
 one_done R before now i d y within made changed =
     let there : i < length before = omega (arith, within, made.count) in
     let first : take (i + 1) before ≡ take i before ++ get_or now i d ∷ [] =
-        take_more before i d there ∙ ap (λ z. take i before ++ z ∷ []) (same_at before now i d made.rest) in
+    take_more before i d there ∙ ap (λ z. take i before ++ z ∷ []) (same_at before now i d made.rest) in
     let second : take (i + 1) (set now i y) ≡ take i now ++ y ∷ [] = take_more_set now i y within in
     record {
       count = length-set now i y ∙ made.count;

@@ -15,6 +15,5 @@ pub use listener::Listener;
 pub use listing::ListListener;
 pub use telling::tell_all;
 
-
 #[cfg(test)]
 mod tests;

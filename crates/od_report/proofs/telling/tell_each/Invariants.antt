@@ -1,4 +1,3 @@
-use Rattle.std.proofs.Common.{ℕ}
 use Rattle.od_report.specs.Told.{Told}
 use Rattle.od_report.proofs.Progress.{Progress}
 use Rattle.od_report.proofs.telling.tell_each.Given as goal
