@@ -1,0 +1,38 @@
+-- Which command the words give, if they give one.
+use Rattle.std.specs.Prelude.{ℕ, ◌&&◌, cond, if◌then◌else◌, List, [], ◌∷◌, codes, option_and_then, option_map, Option, Some, None}
+use Rattle.std.specs.Str.{bytes_eq}
+use Rattle.gd_json.specs.Bases.{is_base}
+use Rattle.clap.specs.Words.{Row, Text, first_of}
+use Rattle.od_words.specs.Found.{found_in, number_in, flag_in}
+use Rattle.od_words.specs.Hosts.{is_host}
+use Rattle.od_words.specs.Options.{sync_app, monitor_app, replay_app}
+use Rattle.od_words.specs.declared.command.Command.{Command}
+use Rattle.od_words.specs.declared.command.Command.TheVariants.{Sync, Monitor, Replay}
+use Rattle.od_words.specs.declared.command.Words.{Words}
+
+-- what a sync is told, where the links' base and the host's name are such
+abbrev pub checked : Words → Option Words
+checked words = if is_base words.url && is_host words.host then Some words else None
+
+-- what was found for a sync
+abbrev pub words_in : List Row → Option Words
+words_in rows = option_and_then (λ root. option_and_then (λ hold. option_and_then (λ db. option_and_then (λ url. option_and_then (λ host. option_and_then (λ workers.
+    checked (record { root = root; hold = hold; db = db; url = url; host = host; rules = first_of (codes "rules") rows; resync = flag_in (codes "resync") rows; workers = workers }))
+    (number_in (codes "workers") rows)) (first_of (codes "host") rows)) (first_of (codes "url") rows)) (first_of (codes "db") rows)) (first_of (codes "hold") rows)) (first_of (codes "root") rows)
+
+abbrev pub sync_in : List Row → Option Command
+sync_in rows = option_map (λ words. Sync words) (words_in rows)
+
+abbrev pub monitor_in : List Row → Option Command
+monitor_in rows = option_and_then (λ words. option_map (λ times. Monitor words times) (number_in (codes "times") rows)) (words_in rows)
+
+abbrev pub replay_in : List Row → Option Command
+replay_in rows = option_and_then (λ host. if is_host host then Some (Replay host (number_in (codes "generate") rows)) else None) (first_of (codes "host") rows)
+
+-- the first word is the command's, and the others are its options
+abbrev pub command_of : List Text → Option Command
+command_of [] = None
+command_of (word ∷ words) =
+    if bytes_eq word (codes "sync") then option_and_then sync_in (found_in sync_app (word ∷ words))
+    else (if bytes_eq word (codes "monitor") then option_and_then monitor_in (found_in monitor_app (word ∷ words))
+    else (if bytes_eq word (codes "replay") then option_and_then replay_in (found_in replay_app (word ∷ words)) else None))
