@@ -29,10 +29,23 @@ monitor_in rows = option_and_then (λ words. option_map (λ times. Monitor words
 abbrev pub replay_in : List Row → Option Command
 replay_in rows = option_and_then (λ host. if is_host host then Some (Replay host (number_in (codes "generate") rows)) else None) (first_of (codes "host") rows)
 
--- the first word is the command's, and the others are its options
+-- the command that `clap` finds at the words, the first of which names it
+unfoldable pub sync_of : List Text → Option Command
+sync_of words = option_and_then sync_in (found_in sync_app words)
+
+unfoldable pub monitor_of : List Text → Option Command
+monitor_of words = option_and_then monitor_in (found_in monitor_app words)
+
+unfoldable pub replay_of : List Text → Option Command
+replay_of words = option_and_then replay_in (found_in replay_app words)
+
+abbrev pub command_named : Text → List Text → Option Command
+command_named name words =
+    if bytes_eq name (codes "sync") then sync_of words
+    else (if bytes_eq name (codes "monitor") then monitor_of words
+    else (if bytes_eq name (codes "replay") then replay_of words else None))
+
+-- the first word is the command's name, and the others are its options
 abbrev pub command_of : List Text → Option Command
 command_of [] = None
-command_of (word ∷ words) =
-    if bytes_eq word (codes "sync") then option_and_then sync_in (found_in sync_app (word ∷ words))
-    else (if bytes_eq word (codes "monitor") then option_and_then monitor_in (found_in monitor_app (word ∷ words))
-    else (if bytes_eq word (codes "replay") then option_and_then replay_in (found_in replay_app (word ∷ words)) else None))
+command_of (name ∷ words) = command_named name (name ∷ words)

@@ -1,8 +1,6 @@
-ghost use Rattle.std.specs.Prelude.{◌≡◌, Some, None, map, string_bytes, option_and_then, IfOk, IsErrOf};
+ghost use Rattle.std.specs.Prelude.{◌≡◌, Some, None, map, string_bytes, IfOk, IsErrOf};
 ghost use Rattle.clap.specs.Words.{found_of, rows_of};
-ghost use Rattle.od_words.specs.Commands.{checked, command_of, monitor_in, replay_in, sync_in, words_in};
-ghost use Rattle.od_words.specs.Found.{found_in};
-ghost use Rattle.od_words.specs.Options.{monitor_app, replay_app, sync_app};
+ghost use Rattle.od_words.specs.Commands.{checked, command_named, command_of, monitor_in, monitor_of, replay_in, replay_of, sync_in, sync_of, words_in};
 
 use crate::command::{Command, UsageFault, Words};
 use crate::found::{find, flag, number, optional, text};
@@ -17,10 +15,16 @@ pub fn read_words(alloc: Global, words: &[String]) -> Result<Command, UsageFault
     ensures ok { IfOk result (λ command. command_of (map string_bytes words.now) ≡ Some command) }
     ensures usage { IsErrOf result UsageFault.Usage → command_of (map string_bytes words.now) ≡ None }
 {
-    let [first, ..] = words else {
-        return Err(UsageFault::Usage);
-    };
-    let name = first.as_str();
+    match words {
+        [first, ..] => read_named(alloc, first.as_str(), words),
+        [] => Err(UsageFault::Usage),
+    }
+}
+
+fn read_named(alloc: Global, name: &str, words: &[String]) -> Result<Command, UsageFault>
+    ensures ok { IfOk result (λ command. command_named name.now (map string_bytes words.now) ≡ Some command) }
+    ensures usage { IsErrOf result UsageFault.Usage → command_named name.now (map string_bytes words.now) ≡ None }
+{
     if name == "sync" {
         return read_sync(alloc, words);
     }
@@ -34,42 +38,72 @@ pub fn read_words(alloc: Global, words: &[String]) -> Result<Command, UsageFault
 }
 
 fn read_sync(alloc: Global, words: &[String]) -> Result<Command, UsageFault>
-    ensures ok { IfOk result (λ command. option_and_then sync_in (found_in sync_app (map string_bytes words.now)) ≡ Some command) }
-    ensures usage { IsErrOf result UsageFault.Usage → option_and_then sync_in (found_in sync_app (map string_bytes words.now)) ≡ None }
+    ensures ok { IfOk result (λ command. sync_of (map string_bytes words.now) ≡ Some command) }
+    ensures usage { IsErrOf result UsageFault.Usage → sync_of (map string_bytes words.now) ≡ None }
 {
     let command = sync_command(alloc)?;
-    let matches = find(command, words)?;
-    let words = words_found(alloc, &matches)?;
-    Ok(Command::Sync(words))
+    match find(command, words) {
+        Ok(matches) => sync_found(alloc, &matches),
+        Err(fault) => Err(fault),
+    }
 }
 
 fn read_monitor(alloc: Global, words: &[String]) -> Result<Command, UsageFault>
-    ensures ok { IfOk result (λ command. option_and_then monitor_in (found_in monitor_app (map string_bytes words.now)) ≡ Some command) }
-    ensures usage { IsErrOf result UsageFault.Usage → option_and_then monitor_in (found_in monitor_app (map string_bytes words.now)) ≡ None }
+    ensures ok { IfOk result (λ command. monitor_of (map string_bytes words.now) ≡ Some command) }
+    ensures usage { IsErrOf result UsageFault.Usage → monitor_of (map string_bytes words.now) ≡ None }
 {
     let command = monitor_command(alloc)?;
-    let matches = find(command, words)?;
-    let words = words_found(alloc, &matches)?;
-    match number(&matches, "times") {
+    match find(command, words) {
+        Ok(matches) => monitor_found(alloc, &matches),
+        Err(fault) => Err(fault),
+    }
+}
+
+fn read_replay(alloc: Global, words: &[String]) -> Result<Command, UsageFault>
+    ensures ok { IfOk result (λ command. replay_of (map string_bytes words.now) ≡ Some command) }
+    ensures usage { IsErrOf result UsageFault.Usage → replay_of (map string_bytes words.now) ≡ None }
+{
+    let command = replay_command(alloc)?;
+    match find(command, words) {
+        Ok(matches) => replay_found(alloc, &matches),
+        Err(fault) => Err(fault),
+    }
+}
+
+fn sync_found(alloc: Global, matches: &ArgMatches<'_>) -> Result<Command, UsageFault>
+    ensures ok { IfOk result (λ command. sync_in (rows_of (found_of matches.now)) ≡ Some command) }
+    ensures usage { IsErrOf result UsageFault.Usage → sync_in (rows_of (found_of matches.now)) ≡ None }
+{
+    match words_found(alloc, matches) {
+        Ok(words) => Ok(Command::Sync(words)),
+        Err(fault) => Err(fault),
+    }
+}
+
+fn monitor_found(alloc: Global, matches: &ArgMatches<'_>) -> Result<Command, UsageFault>
+    ensures ok { IfOk result (λ command. monitor_in (rows_of (found_of matches.now)) ≡ Some command) }
+    ensures usage { IsErrOf result UsageFault.Usage → monitor_in (rows_of (found_of matches.now)) ≡ None }
+{
+    let words = match words_found(alloc, matches) {
+        Ok(words) => words,
+        Err(fault) => return Err(fault),
+    };
+    match number(matches, "times") {
         Some(times) => Ok(Command::Monitor(words, times)),
         None => Err(UsageFault::Usage),
     }
 }
 
-fn read_replay(alloc: Global, words: &[String]) -> Result<Command, UsageFault>
-    ensures ok { IfOk result (λ command. option_and_then replay_in (found_in replay_app (map string_bytes words.now)) ≡ Some command) }
-    ensures usage { IsErrOf result UsageFault.Usage → option_and_then replay_in (found_in replay_app (map string_bytes words.now)) ≡ None }
+fn replay_found(alloc: Global, matches: &ArgMatches<'_>) -> Result<Command, UsageFault>
+    ensures ok { IfOk result (λ command. replay_in (rows_of (found_of matches.now)) ≡ Some command) }
+    ensures usage { IsErrOf result UsageFault.Usage → replay_in (rows_of (found_of matches.now)) ≡ None }
 {
-    let command = replay_command(alloc)?;
-    let matches = find(command, words)?;
-    let host = text(alloc, &matches, "host")?;
+    let host = text(alloc, matches, "host")?;
+    let generate = number(matches, "generate");
     if !is_host(host.as_bytes()) {
         return Err(UsageFault::Usage);
     }
-    Ok(Command::Replay {
-        host,
-        generate: number(&matches, "generate"),
-    })
+    Ok(Command::Replay { host, generate })
 }
 
 fn words_found(alloc: Global, matches: &ArgMatches<'_>) -> Result<Words, UsageFault>
