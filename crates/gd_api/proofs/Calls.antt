@@ -1,5 +1,5 @@
 -- What single calls of the store give.
-use Rattle.std.proofs.Common.{◌≡◌, ℕ, suc, ◌-◌, ◌<◌, length, get_or, arith, Bool, true, false, ◌||◌, not, cond, nat_eq, List, [], ◌∷◌, ◌++◌, map, take, Option, Some, None, Ok, refl, sym, ap, ◌∙◌, subst, inl, inr}
+use Rattle.std.proofs.Common.{◌≡◌, ℕ, suc, ◌-◌, ◌<◌, length, get_or, arith, Bool, true, false, ◌||◌, not, cond, nat_eq, List, [], ◌∷◌, ◌++◌, map, take, Option, Some, None, Result, Ok, Err, IfOk, refl, sym, ap, ◌∙◌, subst, inl, inr}
 use Rattle.std.proofs.lemmas.Bool.{cases_Bool, eqb-true}
 use Rattle.std.specs.Option.{option_map}
 use Rattle.gd_names.specs.declared.conflict.Settle.{Settle}
@@ -9,8 +9,10 @@ use Rattle.gd_item.specs.Children.{children_past, first_children, has_more_child
 use Rattle.gd_item.specs.Ids.{item_id}
 use Rattle.gd_item.specs.Inventory.{Inventory, Effect, live_at, inventory}
 use Rattle.gd_item.specs.Nodes.{live_node, node_at}
+use Rattle.gd_item.specs.Places.{last_name}
 use Rattle.gd_item.specs.Records.{record_at, record_with}
 use Rattle.gd_item.specs.Refusals.{touched, is_made, file_refusal, folder_effect}
+use Rattle.gd_item.specs.Targets.{name_in_path}
 use Rattle.gd_item.specs.Versions.{content_of, content_at}
 use Rattle.gd_item.specs.declared.fault.StoreFault.{StoreFault}
 use Rattle.gd_item.specs.declared.fault.StoreFault.TheVariants.{NotFound, NotFile}
@@ -19,7 +21,7 @@ use Rattle.gd_item.specs.declared.item.Item.{Item}
 use Rattle.gd_item.specs.declared.live.LiveItem.{LiveItem}
 use Rattle.gd_item.specs.declared.reply.Reply.TheVariants as reply
 use Rattle.gd_item.proofs.Effects.{inventory-snoc}
-use Rattle.gd_store.specs.Stands.{Stands, Answers, record_after, given_unless}
+use Rattle.gd_store.specs.Stands.{StoreValue, Stands, Answers, record_after, given_unless}
 use Rattle.gd_store.proofs.Given.{given-ok}
 use Rattle.gd_api.specs.Replies.{Steps, last_item_name}
 
@@ -29,25 +31,25 @@ id-found None id h = absurd cc
 id-found (Some n) id h = let same : item_id n ≡ id = cc in ap Some (ap (λ (i : ItemId). i.0) same)
 
 -- the record that a step gives is its reply
-stepped : (store : Inventory) (log : List Effect) (effect : Effect) (item : Item) → record_after (inventory log) effect ≡ Some item → Stands store (log ++ effect ∷ [])
-    → Steps store log (effect ∷ []) (made_or_is (is_made effect) item)
-stepped store log effect item is stands =
+stepped : (store : StoreValue) (epoch floor : ℕ) (log : List Effect) (effect : Effect) (item : Item) → record_after (inventory log) effect ≡ Some item → Stands store (log ++ effect ∷ []) epoch floor
+    → Steps store epoch floor log (effect ∷ []) (made_or_is (is_made effect) item)
+stepped store epoch floor log effect item is stands =
     let after : record_at (touched (inventory log) effect) true (inventory (log ++ effect ∷ [])) ≡ Some item =
     ap (λ held. record_at (touched (inventory log) effect) true held) (inventory-snoc log effect) ∙ is in
     record { replied = sym (ap (about (made_or_is (is_made effect))) after); stands = stands }
 
-pub item-stepped : (store : Inventory) (log : List Effect) (refusal : Option StoreFault) (effect : Effect) (item : Item) (made : Bool) → is_made effect ≡ made
-    → Answers refusal (Ok item) (λ item. (record_after (inventory log) effect ≡ Some item) × Stands store (log ++ effect ∷ []))
-    → Answers refusal (Ok (made_or_is made item)) (Steps store log (effect ∷ []))
-item-stepped store log refusal effect item made is answer =
-    let P : Bool → Type 0 = λ b. Steps store log (effect ∷ []) (made_or_is b item) in
-    record { ok = (answer.ok.0, subst P is (stepped store log effect item answer.ok.1.0 answer.ok.1.1)); err = tt }
+pub item-stepped : (store : StoreValue) (epoch floor : ℕ) (log : List Effect) (refusal : Option StoreFault) (effect : Effect) (item : Item) (made : Bool) → is_made effect ≡ made
+    → Answers refusal (Ok item) (λ item. (record_after (inventory log) effect ≡ Some item) × Stands store (log ++ effect ∷ []) epoch floor)
+    → Answers refusal (Ok (made_or_is made item)) (Steps store epoch floor log (effect ∷ []))
+item-stepped store epoch floor log refusal effect item made is answer =
+    let P : Bool → Type 0 = λ b. Steps store epoch floor log (effect ∷ []) (made_or_is b item) in
+    record { ok = (answer.ok.0, subst P is (stepped store epoch floor log effect item answer.ok.1.0 answer.ok.1.1)); err = tt }
 
-pub item-put : (store : Inventory) (log : List Effect) (refusal : Option StoreFault) (effect : Effect) (put : Item × Bool) (made : Bool) → put.1 ≡ made
-    → Answers refusal (Ok put) (λ put. (record_after (inventory log) effect ≡ Some put.0) × (put.1 ≡ is_made effect) × Stands store (log ++ effect ∷ []))
-    → Answers refusal (Ok (made_or_is made put.0)) (Steps store log (effect ∷ []))
-item-put store log refusal effect put made is answer =
-    item-stepped store log refusal effect put.0 made (sym answer.ok.1.1 ∙ is) (record { ok = (answer.ok.0, (answer.ok.1.0, answer.ok.1.2)); err = tt })
+pub item-put : (store : StoreValue) (epoch floor : ℕ) (log : List Effect) (refusal : Option StoreFault) (effect : Effect) (put : Item × Bool) (made : Bool) → put.1 ≡ made
+    → Answers refusal (Ok put) (λ put. (record_after (inventory log) effect ≡ Some put.0) × (put.1 ≡ is_made effect) × Stands store (log ++ effect ∷ []) epoch floor)
+    → Answers refusal (Ok (made_or_is made put.0)) (Steps store epoch floor log (effect ∷ []))
+item-put store epoch floor log refusal effect put made is answer =
+    item-stepped store epoch floor log refusal effect put.0 made (sym answer.ok.1.1 ∙ is) (record { ok = (answer.ok.0, (answer.ok.1.0, answer.ok.1.2)); err = tt })
 
 -- a folder that is made is a new item
 pub folder-is-made : (parent : ℕ) (name : List ℕ) (settle : Settle) → is_made (folder_effect parent name settle) ≡ true
@@ -121,3 +123,19 @@ children-listed held earlier size parent items more next given follows named =
     let told : next ≡ next_child parent earlier size held =
     named ∙ ap (λ b. cond b (last_item_name items) None) follows ∙ ap (λ n. cond (has_more_children parent earlier size held) n None) last in
     ap (λ (i : List Item). reply.Listed i next) given ∙ ap (λ n. reply.Listed (first_children parent earlier size held) n) told
+
+-- the last of some names
+last-name : (names : List (List ℕ)) (last : List ℕ) → 0 < length names → last ≡ get_or names (length names - 1) last → last ≡ last_name names
+last-name [] last some is = absurd (omega arith)
+last-name (name ∷ []) last some is = is
+last-name (name ∷ next ∷ names) last some is =
+    let before : length (name ∷ next ∷ names) - 1 ≡ suc (length (next ∷ names) - 1) = omega arith in
+    last-name (next ∷ names) last (omega arith) (is ∙ ap (λ n. get_or (name ∷ next ∷ names) n last) before)
+
+pub last-in-path : (names : List (List ℕ)) (last : List ℕ) → 0 < length names → last ≡ get_or names (length names - 1) last → Some last ≡ name_in_path names
+last-in-path [] last some is = absurd (omega arith)
+last-in-path (name ∷ names) last some is = ap Some (last-name (name ∷ names) last some is)
+
+pub ok-so : {T E : Type 0} {P Q : T → Type 0} (result : Result T E) → ((x : T) → P x → Q x) → IfOk result P → IfOk result Q
+ok-so (Ok x) so told = so x told
+ok-so (Err e) so told = tt

@@ -1,4 +1,6 @@
+pub mod Asking
 pub mod Calls
 pub mod Causes
 pub mod Handling
-pub mod OnePage
+pub mod Sending
+pub mod Stripping

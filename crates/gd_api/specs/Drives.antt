@@ -1,8 +1,7 @@
--- For which log a drive stands, and what a request does to it. Upload sessions are not served yet: such a request is
--- refused as not supported, and is no step of the log.
-use Rattle.std.specs.Prelude.{◌≡◌, ℕ, ◌≤◌, ◌⊎◌, Bool, true, false, List, [], ◌∷◌, ◌++◌}
-use Rattle.gd_item.specs.Answers.{unserved}
-use Rattle.gd_item.specs.Inventory.{Inventory}
+-- For which log a drive stands, and what a request does to it.
+use Rattle.std.specs.Prelude.{◌≡◌, ℕ, ◌≤◌, ◌⊎◌, Bool, true, false, List, [], ◌∷◌, ◌++◌, length}
+use Rattle.gd_item.specs.Answers.{answer, unserved}
+use Rattle.gd_item.specs.Sessions.{State}
 use Rattle.gd_item.specs.Steps.{state_of}
 use Rattle.gd_item.specs.declared.reply.Reply.{Reply}
 use Rattle.gd_item.specs.declared.reply.Reply.TheVariants as reply
@@ -12,45 +11,50 @@ use Rattle.gd_item.specs.declared.step.Step.{Step}
 use Rattle.gd_item.specs.declared.step.Step.TheVariants.{Ask}
 use Rattle.gd_item.specs.declared.step.Who.{Who}
 use Rattle.gd_store.specs.Stands as store
+use Rattle.gd_store.specs.Stands.{StoreValue}
+use Rattle.gd_upload.specs.Stands as upload
+use Rattle.gd_upload.specs.Stands.{SessionsValue}
 
--- what a drive has: its store, and how many records a list or a page has at most
+-- what a drive has: its store, its upload sessions, how many records a list or a page has at most, and whether its
+-- replies give neither digests nor content tags
 pub record DriveValue : Type 0 where
-  pub store : Inventory
+  pub store : StoreValue
+  pub sessions : SessionsValue
   pub size : ℕ
+  pub plain : Bool
 
 -- how many records a list or a page may have at most
 pub record IsPageSize (size : ℕ) : Type 0 where
   pub some : 1 ≤ size
   pub few : size ≤ 200
 
--- the store holds the effects of the log, no session lives, no token expired, and items have digests and content tags
-pub record Stands (drive : DriveValue) (log : List Step) : Type 0 where
+-- it has what a drive has come to
+pub record Has (drive : DriveValue) (state : State) : Type 0 where
   pub size : IsPageSize drive.size
-  pub store : store.Stands drive.store (state_of log).effects
-  pub sessions : (state_of log).sessions ≡ []
-  pub epoch : (state_of log).epoch ≡ 1
-  pub floor : (state_of log).floor ≡ 0
-  pub plain : (state_of log).plain ≡ false
+  pub store : store.Stands drive.store state.effects state.epoch state.floor
+  pub sessions : upload.Stands drive.sessions state.sessions (length state.openers)
+  pub plain : drive.plain ≡ state.plain
 
--- the drive answers as is expected, or that memory is wanting, which changes nothing; it then stands for the log with
--- this step, whoever asked and whether the reply is heard
-pub record Handles (before after : DriveValue) (log : List Step) (request : Request) (reply expected : Reply) : Type 0 where
+-- it has what a drive has come to whose log this is
+abbrev pub Stands : DriveValue → List Step → Type 0
+Stands drive log = Has drive (state_of log)
+
+-- the drive gives this reply, or that memory is wanting, which changes nothing; it then stands for the log with this
+-- step, whoever asked and whether the reply is heard
+pub record Serves (before after : DriveValue) (log : List Step) (request : Request) (reply expected : Reply) : Type 0 where
   pub answered :
       ((reply ≡ expected) × ((who : Who) (heard : Bool) → Stands after (log ++ Ask who request true heard ∷ [])))
       ⊎ ((reply ≡ unserved) × (after ≡ before) × ((who : Who) (heard : Bool) → Stands after (log ++ Ask who request false heard ∷ [])))
 
--- whether a request is one about an upload session
-abbrev pub is_about_session : Request → Bool
-is_about_session (request.OpenSession at name behaviour condition defer) = true
-is_about_session (request.Fragment session first last total bytes) = true
-is_about_session (request.SessionStatus session) = true
-is_about_session (request.CancelSession session) = true
-is_about_session (request.Finish session) = true
-is_about_session request = false
+-- the reply is the answer of a drive with this log
+abbrev pub Handles : DriveValue → DriveValue → List Step → Request → Reply → Type 0
+Handles before after log request reply = Serves before after log request reply (answer (state_of log) before.size request)
 
 -- whether a request is answered without memory
 abbrev pub takes_no_memory : Request → Bool
 takes_no_memory (request.Content at) = true
+takes_no_memory (request.SessionStatus session) = true
+takes_no_memory (request.CancelSession session) = true
 takes_no_memory request = false
 
 -- whether a reply is a refusal

@@ -1,3 +1,2 @@
 pub mod Drives
 pub mod Replies
-pub mod WholePage

@@ -1,36 +1,47 @@
-ghost use Rattle.std.specs.Prelude.{◌≡◌, ℕ, ◌≤◌, ◌&&◌, is_none, true, false, List, [], IfOk};
-ghost use Rattle.gd_item.specs.Answers.{refused};
-ghost use Rattle.gd_item.specs.Refused.{refuse};
-ghost use Rattle.gd_item.specs.Steps.{state_of};
+ghost use Rattle.std.specs.Prelude.{◌≡◌, ℕ, ◌≤◌, ◌∷◌, ◌++◌, ◌&&◌, is_none, true, List, [], IfOk};
+ghost use Rattle.gd_item.specs.Answers.{answer, unserved as unserved_reply};
+ghost use Rattle.gd_item.specs.Refusals.{file_refusal as not_file};
+ghost use Rattle.gd_item.specs.Steps.{state_of, held_by, accepted_by};
+ghost use Rattle.gd_item.specs.Versions.{versions_of};
 ghost use Rattle.gd_item.specs.declared.step.Step.{Step};
-ghost use Rattle.gd_api.specs.Drives.{Handles, is_about_session, takes_no_memory, is_refusal};
-ghost use Rattle.gd_api.specs.Replies.{reply_of};
-ghost use Rattle.gd_api.specs.WholePage.{answer_now};
+ghost use Rattle.gd_store.specs.Stands.{Answers};
+ghost use Rattle.gd_api.specs.Drives.{Serves, Handles, takes_no_memory, is_refusal};
+ghost use Rattle.gd_api.specs.Replies.{reply_of, session_reply_of, whole_answer};
 
-use crate::{feed, reads, steps};
-use gd_item::{Address, Condition, ErrorCode, ItemId, Reply, Request, StoreFault};
-use gd_names::{Bytes, Conflict, NoMemory, Text};
+mod changing;
+mod events;
+mod reading;
+mod uploading;
+
+use crate::bare::show;
+use gd_item::{
+    DriveEvent, ErrorCode, ItemId, Reply, Request, SessionFault, StoreFault, VersionInfo,
+};
+use gd_names::{List, NoMemory};
 use gd_store::Store;
+use gd_upload::Sessions;
 use std::alloc::Global;
 use std::marker::Model;
 
-/// How many bytes a file has at most that is put at once.
-const MOST_PUT: usize = 4_194_304;
-
-/// A drive over a store.
+/// A drive over a store, with its upload sessions.
 #[derive(Debug, Drop)]
 pub struct Drive {
     alloc: Global,
     store: Store,
+    sessions: Sessions,
     size: u64,
+    /// Whether replies give neither digests nor content tags.
+    plain: bool,
 }
 
 impl Model for Drive {
-    ghost use Rattle.gd_api.specs.Drives.{DriveValue};
+    ghost use Rattle.gd_api.specs.Drives.{DriveValue, IsPageSize};
 
     ghost Value = { DriveValue };
 
-    ghost view = { λ d. record { store = d.store; size = d.size } };
+    ghost view = { λ d. record { store = d.store; sessions = d.sessions; size = d.size; plain = d.plain } };
+
+    ghost invariant = { λ d. IsPageSize d.size };
 }
 
 /// The reply that a call's result makes.
@@ -46,10 +57,33 @@ fn make_reply(done: Result<Reply, StoreFault>) -> Reply
     }
 }
 
+/// The same of a call about sessions.
+fn make_session_reply(done: Result<Reply, SessionFault>) -> Reply
+    ensures { result ≡ session_reply_of done }
+{
+    match done {
+        Ok(reply) => reply,
+        Err(fault) => Reply::Refused {
+            status: fault.status(),
+            code: fault.code(),
+        },
+    }
+}
+
+/// The reply of a drive that lacks memory.
+fn unserved() -> Reply
+    ensures { result ≡ unserved_reply }
+{
+    Reply::Refused {
+        status: 503,
+        code: ErrorCode::GeneralException,
+    }
+}
+
 impl Drive {
     ghost use Rattle.gd_api.specs.Drives.{Stands};
 
-    /// A drive with its root alone; a list has at most `page` items, from 1 to 200.
+    /// A drive with its root alone; a list and a page have at most `page` items, from 1 to 200.
     pub fn new(alloc: Global, page: u64) -> Result<Drive, NoMemory>
         requires above { 1 ≤ page }
         requires below { page ≤ 200 }
@@ -59,16 +93,73 @@ impl Drive {
         Ok(Drive {
             alloc,
             store,
+            sessions: Sessions::new(alloc),
             size: page,
+            plain: false,
         })
     }
 
-    /// Answers a request.
+    /// Answers a request. Memory is taken before anything changes.
     pub fn handle(&mut self, request: &Request) -> Reply
-        ensures answer { (log : List Step) → Stands self.old log → is_about_session request.now ≡ false
-            → Handles self.old self.new log request.now result (answer_now (state_of log) self.old.size request.now) }
-        ensures served { (log : List Step) → Stands self.old log → takes_no_memory request.now ≡ true → result ≡ answer_now (state_of log) self.old.size request.now }
-        ensures session { is_about_session request.now ≡ true → result ≡ refused (refuse 405 ErrorCode.NotSupported) }
+        ensures answer { (log : List Step) → Stands self.old log → Handles self.old self.new log request.now result }
+        ensures served { (log : List Step) → Stands self.old log → takes_no_memory request.now ≡ true → result ≡ answer (state_of log) self.old.size request.now }
+        ensures refusal { is_refusal result ≡ true → self.new ≡ self.old }
+        ensures size { self.new.size ≡ self.old.size }
+    {
+        let plain = self.is_plain();
+        let reply = self.answer(request);
+        show(plain, reply)
+    }
+
+    /// Something happens to the drive without a request. Takes no memory.
+    pub fn event(&mut self, event: DriveEvent)
+        ensures stands { (log : List Step) → Stands self.old log → Stands self.new (log ++ Step.Event event ∷ []) }
+        ensures size { self.new.size ≡ self.old.size }
+    {
+        match event {
+            DriveEvent::Expire(number) => self.expire(number),
+            DriveEvent::Restore => self.restore(),
+            DriveEvent::EndSession(session) => self.end_session(session),
+            DriveEvent::Plain => self.become_plain(),
+        }
+    }
+
+    /// Changes how many items a list or a page has at most, to a number from 1 to 200.
+    pub fn set_page(&mut self, page: u64)
+        requires above { 1 ≤ page }
+        requires below { page ≤ 200 }
+        ensures size { self.new.size ≡ page }
+        ensures stands { (log : List Step) → Stands self.old log → Stands self.new log }
+    {
+        self.size = page;
+    }
+
+    /// The store of the log for which the drive stands.
+    pub fn store(&self) -> &Store
+        ensures { result.now ≡ self.now.store }
+    {
+        &self.store
+    }
+
+    /// The versions of a living file that the drive accepted, the newest first.
+    pub fn versions(&self, id: ItemId) -> Result<List<VersionInfo>, StoreFault>
+        ensures { (log : List Step) → Stands self.now log
+            → Answers (not_file (held_by log) id.0) result (λ found. found ≡ versions_of id.0 (accepted_by log)) }
+    {
+        self.store.versions(id)
+    }
+
+    fn is_plain(&self) -> bool
+        ensures { result ≡ self.now.plain }
+    {
+        self.plain
+    }
+
+    /// Answers a request, as if the drive were not plain.
+    fn answer(&mut self, request: &Request) -> Reply
+        ensures answer { (log : List Step) → Stands self.old log
+            → Serves self.old self.new log request.now result (whole_answer (state_of log) self.old.size request.now) }
+        ensures served { (log : List Step) → Stands self.old log → takes_no_memory request.now ≡ true → result ≡ whole_answer (state_of log) self.old.size request.now }
         ensures refusal { is_refusal result ≡ true → self.new ≡ self.old }
         ensures size { self.new.size ≡ self.old.size }
     {
@@ -96,164 +187,23 @@ impl Drive {
             Request::Content { at } => self.content(at),
             Request::Download { id, version } => self.download(*id, *version),
             Request::Delta { token } => self.delta(token),
-            Request::OpenSession { .. } => not_supported(),
-            Request::Fragment { .. } => not_supported(),
-            Request::SessionStatus { .. } => not_supported(),
-            Request::CancelSession { .. } => not_supported(),
-            Request::Finish { .. } => not_supported(),
+            Request::OpenSession {
+                at,
+                name,
+                behaviour,
+                condition,
+                defer,
+            } => { self.open_session(at, name, *behaviour, condition, *defer) }
+            Request::Fragment {
+                session,
+                first,
+                last,
+                total,
+                bytes,
+            } => { self.fragment(*session, *first, *last, *total, bytes) }
+            Request::SessionStatus { session } => self.session_status(*session),
+            Request::CancelSession { session } => self.cancel_session(*session),
+            Request::Finish { session } => self.finish(*session),
         }
-    }
-
-    /// Changes how many items a list has at most, to a number from 1 to 200.
-    pub fn set_page(&mut self, page: u64)
-        requires above { 1 ≤ page }
-        requires below { page ≤ 200 }
-        ensures size { self.new ≡ record { store = self.old.store; size = page } }
-        ensures stands { (log : List Step) → Stands self.old log → Stands self.new log }
-    {
-        self.size = page;
-    }
-
-    /// The store of the log for which the drive stands.
-    pub fn store(&self) -> &Store
-        ensures { result.now ≡ self.now.store }
-    {
-        &self.store
-    }
-
-    fn get(&self, at: &Address) -> Reply
-        ensures answer { (log : List Step) → Stands self.now log
-            → Handles self.now self.now log (Request.Get at.now) result (answer_now (state_of log) self.now.size (Request.Get at.now)) }
-    {
-        make_reply(reads::get(&self.store, at))
-    }
-
-    fn children(&self, at: &Address, after: &Option<Text>) -> Reply
-        ensures answer { (log : List Step) → Stands self.now log
-            → Handles self.now self.now log (Request.Children at.now after.now) result (answer_now (state_of log) self.now.size (Request.Children at.now after.now)) }
-    {
-        make_reply(reads::children(&self.store, at, after.as_ref(), self.size))
-    }
-
-    fn content(&self, at: &Address) -> Reply
-        ensures answer { (log : List Step) → Stands self.now log
-            → Handles self.now self.now log (Request.Content at.now) result (answer_now (state_of log) self.now.size (Request.Content at.now)) }
-        ensures served { (log : List Step) → Stands self.now log → result ≡ answer_now (state_of log) self.now.size (Request.Content at.now) }
-    {
-        make_reply(reads::content(&self.store, at))
-    }
-
-    fn download(&self, id: ItemId, version: u64) -> Reply
-        ensures answer { (log : List Step) → Stands self.now log
-            → Handles self.now self.now log (Request.Download id version) result (answer_now (state_of log) self.now.size (Request.Download id version)) }
-    {
-        make_reply(reads::download(&self.store, id, version))
-    }
-
-    fn delta(&self, token: &Option<Text>) -> Reply
-        ensures answer { (log : List Step) → Stands self.now log
-            → Handles self.now self.now log (Request.Delta token.now) result (answer_now (state_of log) self.now.size (Request.Delta token.now)) }
-    {
-        match feed::delta(self.alloc, &self.store, token.as_ref()) {
-            Ok(reply) => reply,
-            Err(NoMemory) => unserved(),
-        }
-    }
-
-    fn make_folder(&mut self, at: &Address, name: &Text, behaviour: Conflict) -> Reply
-        ensures answer { (log : List Step) → Stands self.old log
-            → Handles self.old self.new log (Request.MakeFolder at.now name.now behaviour) result
-            (answer_now (state_of log) self.old.size (Request.MakeFolder at.now name.now behaviour)) }
-        ensures refusal { is_refusal result ≡ true → self.new ≡ self.old }
-        ensures size { self.new.size ≡ self.old.size }
-    {
-        make_reply(steps::make_folder(&mut self.store, at, name, behaviour))
-    }
-
-    fn put(
-        &mut self,
-        at: &Address,
-        bytes: &Bytes,
-        behaviour: Conflict,
-        condition: &Condition,
-    ) -> Reply
-        ensures answer { (log : List Step) → Stands self.old log
-            → Handles self.old self.new log (Request.Put at.now bytes.now behaviour condition.now) result
-            (answer_now (state_of log) self.old.size (Request.Put at.now bytes.now behaviour condition.now)) }
-        ensures refusal { is_refusal result ≡ true → self.new ≡ self.old }
-        ensures size { self.new.size ≡ self.old.size }
-    {
-        if bytes.len() > MOST_PUT {
-            return Reply::Refused {
-                status: 413,
-                code: ErrorCode::InvalidRequest,
-            };
-        }
-        make_reply(steps::put(
-            self.alloc,
-            &mut self.store,
-            at,
-            bytes.as_slice(),
-            behaviour,
-            condition,
-        ))
-    }
-
-    fn patch(
-        &mut self,
-        at: &Address,
-        name: &Option<Text>,
-        parent: Option<ItemId>,
-        condition: &Condition,
-    ) -> Reply
-        ensures answer { (log : List Step) → Stands self.old log
-            → Handles self.old self.new log (Request.Patch at.now name.now parent condition.now) result
-            (answer_now (state_of log) self.old.size (Request.Patch at.now name.now parent condition.now)) }
-        ensures refusal { is_refusal result ≡ true → self.new ≡ self.old }
-        ensures size { self.new.size ≡ self.old.size }
-    {
-        if is_empty_patch(name, parent) {
-            return Reply::Refused {
-                status: 400,
-                code: ErrorCode::InvalidRequest,
-            };
-        }
-        make_reply(steps::patch(&mut self.store, at, name.as_ref(), parent, condition))
-    }
-
-    fn delete(&mut self, at: &Address, condition: &Condition) -> Reply
-        ensures answer { (log : List Step) → Stands self.old log
-            → Handles self.old self.new log (Request.Delete at.now condition.now) result (answer_now (state_of log) self.old.size (Request.Delete at.now condition.now)) }
-        ensures refusal { is_refusal result ≡ true → self.new ≡ self.old }
-        ensures size { self.new.size ≡ self.old.size }
-    {
-        make_reply(steps::remove(&mut self.store, at, condition))
-    }
-}
-
-/// Whether a move has neither a name nor a folder.
-fn is_empty_patch(name: &Option<Text>, parent: Option<ItemId>) -> bool
-    ensures { result ≡ (is_none name.now && is_none parent) }
-{
-    name.is_none() && parent.is_none()
-}
-
-/// The reply of a drive that lacks memory.
-fn unserved() -> Reply
-    ensures { result ≡ refused (refuse 503 ErrorCode.GeneralException) }
-{
-    Reply::Refused {
-        status: 503,
-        code: ErrorCode::GeneralException,
-    }
-}
-
-/// The reply to a request about an upload session.
-fn not_supported() -> Reply
-    ensures { result ≡ refused (refuse 405 ErrorCode.NotSupported) }
-{
-    Reply::Refused {
-        status: 405,
-        code: ErrorCode::NotSupported,
     }
 }

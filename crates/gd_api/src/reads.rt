@@ -17,7 +17,7 @@ use gd_store::Store;
 
 /// The record of an item.
 fn get_at(store: &Store, id: ItemId) -> Result<Reply, StoreFault>
-    ensures answer { (log : List Effect) → Stands store.now log
+    ensures answer { (log : List Effect) (epoch floor : ℕ) → Stands store.now log epoch floor
         → Answers (missing (record_at id.0 true (inventory log))) result (λ reply. reply ≡ record_reply (inventory log) id.0) }
 {
     let item = store.get(id, true)?;
@@ -26,7 +26,7 @@ fn get_at(store: &Store, id: ItemId) -> Result<Reply, StoreFault>
 
 /// The record of the item that an address names.
 pub fn get(store: &Store, at: &Address) -> Result<Reply, StoreFault>
-    ensures answer { (log : List Effect) → Stands store.now log
+    ensures answer { (log : List Effect) (epoch floor : ℕ) → Stands store.now log epoch floor
         → Answers (at_target (λ number. missing (record_at number true (inventory log))) (target_of (inventory log) at.now)) result
         (λ reply. reply ≡ about (record_reply (inventory log)) (target_of (inventory log) at.now)) }
 {
@@ -61,7 +61,7 @@ fn children_at(
     after: Option<&Text>,
     size: u64,
 ) -> Result<Reply, StoreFault>
-    ensures answer { (log : List Effect) → Stands store.now log
+    ensures answer { (log : List Effect) (epoch floor : ℕ) → Stands store.now log epoch floor
         → Answers (folder_refusal (inventory log) id.0) result (λ reply. reply ≡ children_reply (inventory log) (option_copied after.entry) size id.0) }
 {
     let (items, more) = store.children(id, after, size)?;
@@ -76,7 +76,7 @@ pub fn children(
     after: Option<&Text>,
     size: u64,
 ) -> Result<Reply, StoreFault>
-    ensures answer { (log : List Effect) → Stands store.now log
+    ensures answer { (log : List Effect) (epoch floor : ℕ) → Stands store.now log epoch floor
         → Answers (at_target (folder_refusal (inventory log)) (target_of (inventory log) at.now)) result
         (λ reply. reply ≡ about (children_reply (inventory log) (option_copied after.entry) size) (target_of (inventory log) at.now)) }
 {
@@ -88,7 +88,7 @@ pub fn children(
 
 /// Where the bytes of a file are to be had. Takes no memory.
 fn content_at(store: &Store, id: ItemId) -> Result<Reply, StoreFault>
-    ensures answer { (log : List Effect) → Stands store.now log
+    ensures answer { (log : List Effect) (epoch floor : ℕ) → Stands store.now log epoch floor
         → result ≡ given_unless (file_refusal (inventory log) id.0) (content_reply (inventory log) id.0) }
 {
     match store.content_number(id) {
@@ -99,7 +99,7 @@ fn content_at(store: &Store, id: ItemId) -> Result<Reply, StoreFault>
 
 /// Where the bytes of the file that an address names are to be had. Takes no memory.
 pub fn content(store: &Store, at: &Address) -> Result<Reply, StoreFault>
-    ensures answer { (log : List Effect) → Stands store.now log
+    ensures answer { (log : List Effect) (epoch floor : ℕ) → Stands store.now log epoch floor
         → result ≡ given_unless (at_target (file_refusal (inventory log)) (target_of (inventory log) at.now)) (about (content_reply (inventory log)) (target_of (inventory log) at.now)) }
 {
     match find_target(store, at) {
@@ -110,7 +110,7 @@ pub fn content(store: &Store, at: &Address) -> Result<Reply, StoreFault>
 
 /// The bytes of a version.
 pub fn download(store: &Store, id: ItemId, version: u64) -> Result<Reply, StoreFault>
-    ensures answer { (log : List Effect) → Stands store.now log
+    ensures answer { (log : List Effect) (epoch floor : ℕ) → Stands store.now log epoch floor
         → Answers (missing (version_at id.0 version (inventory log))) result (λ reply. reply ≡ about Reply.Content (version_at id.0 version (inventory log))) }
 {
     let bytes = store.version(id, version)?;

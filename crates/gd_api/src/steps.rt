@@ -23,9 +23,9 @@ fn make_folder_in(
     name: &Text,
     behaviour: Conflict,
 ) -> Result<Reply, StoreFault>
-    ensures answer { (log : List Effect) → Stands store.old log
+    ensures answer { (log : List Effect) (epoch floor : ℕ) → Stands store.old log epoch floor
         → Answers (make_folder_refusal (inventory log) parent.0 name.now behaviour) result
-        (Steps store.new log (make_folder_effect (inventory log) parent.0 name.now behaviour ∷ [])) }
+        (Steps store.new epoch floor log (make_folder_effect (inventory log) parent.0 name.now behaviour ∷ [])) }
     ensures kept { OnErr result (store.new ≡ store.old) }
     ensures served { IfOk result (λ reply. is_refusal reply ≡ false) }
 {
@@ -40,9 +40,9 @@ pub fn make_folder(
     name: &Text,
     behaviour: Conflict,
 ) -> Result<Reply, StoreFault>
-    ensures answer { (log : List Effect) → Stands store.old log
+    ensures answer { (log : List Effect) (epoch floor : ℕ) → Stands store.old log epoch floor
         → Answers (at_target (λ parent. make_folder_refusal (inventory log) parent name.now behaviour) (target_of (inventory log) at.now)) result
-        (Steps store.new log (effects_at (λ parent. make_folder_effect (inventory log) parent name.now behaviour ∷ []) (target_of (inventory log) at.now))) }
+        (Steps store.new epoch floor log (effects_at (λ parent. make_folder_effect (inventory log) parent name.now behaviour ∷ []) (target_of (inventory log) at.now))) }
     ensures kept { OnErr result (store.new ≡ store.old) }
     ensures served { IfOk result (λ reply. is_refusal reply ≡ false) }
 {
@@ -52,21 +52,22 @@ pub fn make_folder(
     }
 }
 
-/// Puts a file at a place.
-fn put_in(
+/// Puts a file at a place. Other bytes that count against the limit are those of upload sessions.
+pub fn put_in(
     store: &mut Store,
     place: &Place,
     bytes: &[u8],
     behaviour: Conflict,
     condition: &Condition,
+    others: u64,
 ) -> Result<Reply, StoreFault>
-    ensures answer { (log : List Effect) → Stands store.old log
-        → Answers (put_refusal (inventory log) place.now bytes.now behaviour condition.now 0) result
-        (Steps store.new log (put_effect (inventory log) place.now bytes.now behaviour ∷ [])) }
+    ensures answer { (log : List Effect) (epoch floor : ℕ) → Stands store.old log epoch floor
+        → Answers (put_refusal (inventory log) place.now bytes.now behaviour condition.now others) result
+        (Steps store.new epoch floor log (put_effect (inventory log) place.now bytes.now behaviour ∷ [])) }
     ensures kept { OnErr result (store.new ≡ store.old) }
     ensures served { IfOk result (λ reply. is_refusal reply ≡ false) }
 {
-    let (item, made) = store.put_and_get(place, bytes, behaviour, condition, 0)?;
+    let (item, made) = store.put_and_get(place, bytes, behaviour, condition, others)?;
     if made {
         Ok(Reply::Made(item))
     } else {
@@ -82,15 +83,16 @@ pub fn put(
     bytes: &[u8],
     behaviour: Conflict,
     condition: &Condition,
+    others: u64,
 ) -> Result<Reply, StoreFault>
-    ensures answer { (log : List Effect) → Stands store.old log
-        → Answers (at_target (λ place. put_refusal (inventory log) place bytes.now behaviour condition.now 0) (place_of (inventory log) at.now)) result
-        (Steps store.new log (effects_at (λ place. put_effect (inventory log) place bytes.now behaviour ∷ []) (place_of (inventory log) at.now))) }
+    ensures answer { (log : List Effect) (epoch floor : ℕ) → Stands store.old log epoch floor
+        → Answers (at_target (λ place. put_refusal (inventory log) place bytes.now behaviour condition.now others) (place_of (inventory log) at.now)) result
+        (Steps store.new epoch floor log (effects_at (λ place. put_effect (inventory log) place bytes.now behaviour ∷ []) (place_of (inventory log) at.now))) }
     ensures kept { OnErr result (store.new ≡ store.old) }
     ensures served { IfOk result (λ reply. is_refusal reply ≡ false) }
 {
     match find_place(alloc, store, at)? {
-        Some(place) => put_in(store, &place, bytes, behaviour, condition),
+        Some(place) => put_in(store, &place, bytes, behaviour, condition, others),
         None => Err(StoreFault::NotFound),
     }
 }
@@ -103,9 +105,9 @@ fn patch_at(
     parent: Option<ItemId>,
     condition: &Condition,
 ) -> Result<Reply, StoreFault>
-    ensures answer { (log : List Effect) → Stands store.old log
+    ensures answer { (log : List Effect) (epoch floor : ℕ) → Stands store.old log epoch floor
         → Answers (patch_refusal (inventory log) id.0 (option_copied name.entry) (id_number parent) condition.now) result
-        (Steps store.new log (patch_effect (inventory log) id.0 (option_copied name.entry) (id_number parent) ∷ [])) }
+        (Steps store.new epoch floor log (patch_effect (inventory log) id.0 (option_copied name.entry) (id_number parent) ∷ [])) }
     ensures kept { OnErr result (store.new ≡ store.old) }
     ensures served { IfOk result (λ reply. is_refusal reply ≡ false) }
 {
@@ -121,9 +123,9 @@ pub fn patch(
     parent: Option<ItemId>,
     condition: &Condition,
 ) -> Result<Reply, StoreFault>
-    ensures answer { (log : List Effect) → Stands store.old log
+    ensures answer { (log : List Effect) (epoch floor : ℕ) → Stands store.old log epoch floor
         → Answers (at_target (λ number. patch_refusal (inventory log) number (option_copied name.entry) (id_number parent) condition.now) (target_of (inventory log) at.now)) result
-        (Steps store.new log (effects_at (λ number. patch_effect (inventory log) number (option_copied name.entry) (id_number parent) ∷ []) (target_of (inventory log) at.now))) }
+        (Steps store.new epoch floor log (effects_at (λ number. patch_effect (inventory log) number (option_copied name.entry) (id_number parent) ∷ []) (target_of (inventory log) at.now))) }
     ensures kept { OnErr result (store.new ≡ store.old) }
     ensures served { IfOk result (λ reply. is_refusal reply ≡ false) }
 {
@@ -135,9 +137,9 @@ pub fn patch(
 
 /// Removes the item of an id.
 fn remove_at(store: &mut Store, id: ItemId, condition: &Condition) -> Result<Reply, StoreFault>
-    ensures answer { (log : List Effect) → Stands store.old log
+    ensures answer { (log : List Effect) (epoch floor : ℕ) → Stands store.old log epoch floor
         → Answers (remove_refusal (inventory log) id.0 condition.now) result
-        (λ reply. (reply ≡ Reply.Done) × Stands store.new (log ++ remove_effects (inventory log) id.0)) }
+        (λ reply. (reply ≡ Reply.Done) × Stands store.new (log ++ remove_effects (inventory log) id.0) epoch floor) }
     ensures kept { OnErr result (store.new ≡ store.old) }
     ensures served { IfOk result (λ reply. is_refusal reply ≡ false) }
 {
@@ -147,9 +149,9 @@ fn remove_at(store: &mut Store, id: ItemId, condition: &Condition) -> Result<Rep
 
 /// Removes the item that an address names, and all below it.
 pub fn remove(store: &mut Store, at: &Address, condition: &Condition) -> Result<Reply, StoreFault>
-    ensures answer { (log : List Effect) → Stands store.old log
+    ensures answer { (log : List Effect) (epoch floor : ℕ) → Stands store.old log epoch floor
         → Answers (at_target (λ number. remove_refusal (inventory log) number condition.now) (target_of (inventory log) at.now)) result
-        (λ reply. (reply ≡ Reply.Done) × Stands store.new (log ++ effects_at (remove_effects (inventory log)) (target_of (inventory log) at.now))) }
+        (λ reply. (reply ≡ Reply.Done) × Stands store.new (log ++ effects_at (remove_effects (inventory log)) (target_of (inventory log) at.now)) epoch floor) }
     ensures kept { OnErr result (store.new ≡ store.old) }
     ensures served { IfOk result (λ reply. is_refusal reply ≡ false) }
 {

@@ -1,4 +1,4 @@
-ghost use Rattle.std.specs.Prelude.{◌≡◌, List, IfOk};
+ghost use Rattle.std.specs.Prelude.{◌≡◌, ℕ, List, IfOk};
 ghost use Rattle.std.specs.Option.{option_map};
 ghost use Rattle.gd_item.specs.Ids.{item_id};
 ghost use Rattle.gd_item.specs.Inventory.{Effect, inventory};
@@ -12,7 +12,7 @@ use std::alloc::Global;
 
 /// The id that an address names; an address by id may name no item. Takes no memory.
 pub fn find_target(store: &Store, at: &Address) -> Option<ItemId>
-    ensures { (log : List Effect) → Stands store.now log → result ≡ option_map item_id (target_of (inventory log) at.now) }
+    ensures { (log : List Effect) (epoch floor : ℕ) → Stands store.now log epoch floor → result ≡ option_map item_id (target_of (inventory log) at.now) }
 {
     match at {
         Address::Id(id) => Some(*id),
@@ -23,7 +23,7 @@ pub fn find_target(store: &Store, at: &Address) -> Option<ItemId>
 
 /// Where an address by path puts a file.
 fn find_place_at(alloc: Global, store: &Store, path: &Path) -> Result<Option<Place>, NoMemory>
-    ensures { IfOk result (λ place. (log : List Effect) → Stands store.now log → place ≡ place_at (inventory log) path.now) }
+    ensures { IfOk result (λ place. (log : List Effect) (epoch floor : ℕ) → Stands store.now log epoch floor → place ≡ place_at (inventory log) path.now) }
 {
     if path.names().is_empty() {
         return Ok(Some(Place::Over(ItemId(1))));
@@ -37,7 +37,7 @@ fn find_place_at(alloc: Global, store: &Store, path: &Path) -> Result<Option<Pla
 
 /// Where an address puts a file, if the folder above it is there.
 pub fn find_place(alloc: Global, store: &Store, at: &Address) -> Result<Option<Place>, NoMemory>
-    ensures { IfOk result (λ place. (log : List Effect) → Stands store.now log → place ≡ place_of (inventory log) at.now) }
+    ensures { IfOk result (λ place. (log : List Effect) (epoch floor : ℕ) → Stands store.now log epoch floor → place ≡ place_of (inventory log) at.now) }
 {
     match at {
         Address::Id(id) => Ok(Some(Place::Over(*id))),

@@ -1,4 +1,4 @@
--- A step that gives a record, and undoing a step for whose record memory is wanting.
+-- Undoing a step for whose record memory is wanting.
 use Rattle.std.proofs.Common.{◌≡◌, ℕ, ◌+◌, suc, length, Bool, true, false, cond, nat_eq, List, [], ◌∷◌, ◌++◌, Option, Some, None, Result, Ok, Err, refl, sym, ap, ◌∙◌, subst}
 use Rattle.std.specs.Option.{option_to_list}
 use Rattle.gd_item.specs.Inventory.{Inventory, Effect, Moved, after, inventory, changed, live_at, with_bytes, with_place, version_in, version_of}
@@ -10,39 +10,6 @@ use Rattle.gd_item.specs.declared.live.LiveItem.{LiveItem}
 use Rattle.gd_item.specs.declared.live.Tombstone.{Tombstone}
 use Rattle.gd_item.specs.declared.live.Version.{Version}
 use Rattle.gd_store.specs.Changed.{moved_back, change_of, content_of, version_bytes, with_version}
-use Rattle.gd_store.specs.Stands.{Stands, Answers, record_after}
-use Rattle.gd_store.proofs.Steps.{IsSound, one-more}
-
--- an answer about what the store holds, with a record, is one about its effects
-pub gives : (old new : Inventory) (log : List Effect) (refusal : Inventory → Option StoreFault) (effect : Inventory → Effect) (result : Result Item StoreFault)
-    → Stands old log → (None ≡ refusal old → new ≡ after old (effect old) → IsSound new)
-    → Answers (refusal old) result (λ item. (record_after old (effect old) ≡ Some item) × (new ≡ after old (effect old)))
-    → Answers (refusal (inventory log)) result (λ item. (record_after (inventory log) (effect (inventory log)) ≡ Some item) × Stands new (log ++ effect (inventory log) ∷ []))
-gives old new log refusal effect (Ok item) stands sound answer =
-    let P : Inventory → Type 0 = λ held. record_after held (effect held) ≡ Some item in
-    record {
-      ok = (sym (ap refusal stands.held) ∙ answer.ok.0, (subst P stands.held answer.ok.1.0, one-more old new log effect stands answer.ok.1.1 (sound (sym answer.ok.0) answer.ok.1.1)));
-      err = tt;
-    }
-gives old new log refusal effect (Err fault) stands sound answer =
-    let P : Inventory → Type 0 = λ held. Answers (refusal held) (Err fault) (λ item. (record_after (inventory log) (effect (inventory log)) ≡ Some item) × Stands new (log ++ effect (inventory log) ∷ [])) in
-    subst P stands.held (record { ok = tt; err = answer.err })
-
--- the same with the word whether the item was made
-pub gives-put : (old new : Inventory) (log : List Effect) (refusal : Inventory → Option StoreFault) (effect : Inventory → Effect) (result : Result (Item × Bool) StoreFault)
-    → Stands old log → (None ≡ refusal old → new ≡ after old (effect old) → IsSound new)
-    → Answers (refusal old) result (λ (put : Item × Bool). ((record_after old (effect old) ≡ Some put.0) × (put.1 ≡ is_made (effect old))) × (new ≡ after old (effect old)))
-    → Answers (refusal (inventory log)) result (λ (put : Item × Bool). (record_after (inventory log) (effect (inventory log)) ≡ Some put.0) × (put.1 ≡ is_made (effect (inventory log))) × Stands new (log ++ effect (inventory log) ∷ []))
-gives-put old new log refusal effect (Ok put) stands sound answer =
-    let P : Inventory → Type 0 = λ held. record_after held (effect held) ≡ Some put.0 in
-    let Q : Inventory → Type 0 = λ held. put.1 ≡ is_made (effect held) in
-    record {
-      ok = (sym (ap refusal stands.held) ∙ answer.ok.0, (subst P stands.held answer.ok.1.0.0, subst Q stands.held answer.ok.1.0.1, one-more old new log effect stands answer.ok.1.1 (sound (sym answer.ok.0) answer.ok.1.1)));
-      err = tt;
-    }
-gives-put old new log refusal effect (Err fault) stands sound answer =
-    let P : Inventory → Type 0 = λ held. Answers (refusal held) (Err fault) (λ (put : Item × Bool). (record_after (inventory log) (effect (inventory log)) ≡ Some put.0) × (put.1 ≡ is_made (effect (inventory log))) × Stands new (log ++ effect (inventory log) ∷ [])) in
-    subst P stands.held (record { ok = tt; err = answer.err })
 
 -- a change that is undone at the item of a number leaves the items as they were
 pub undone : (number : ℕ) (f : LiveItem → LiveItem) (g : Option LiveItem → LiveItem → LiveItem) → ((item : LiveItem) → (f item).number ≡ item.number) → (items : List LiveItem)

@@ -1,3 +1,4 @@
+pub mod AllVersions
 pub mod Changes
 pub mod Climbs
 pub mod Feeds
@@ -6,6 +7,7 @@ pub mod Gives
 pub mod Insides
 pub mod Listing
 pub mod Overwriting
+pub mod Pruning
 pub mod Removals
 pub mod Sounds
 pub mod Steps

@@ -10,7 +10,6 @@ use Rattle.gd_item.specs.Moves.{new_parent, new_name, patch_refusal, patch_effec
 use Rattle.gd_item.specs.Refusals.{settled_in, siblings_in, folder_effect, file_effect, make_folder_refusal, make_folder_effect, put_over_refusal, put_under_refusal}
 use Rattle.gd_item.specs.Sound.{IsItemMap}
 use Rattle.gd_item.specs.declared.condition.Condition.{Condition}
-use Rattle.gd_item.proofs.Effects.{next-inventory, number-positive}
 use Rattle.gd_item.proofs.Moving.{sound-moved}
 use Rattle.gd_item.proofs.Removing.{sound-removed-all}
 use Rattle.gd_item.proofs.Soundness.{sound-file, sound-over}
@@ -19,15 +18,7 @@ use Rattle.gd_laws.proofs.Counts.{siblings-few}
 use Rattle.gd_laws.proofs.Found.{make-finds}
 use Rattle.gd_laws.proofs.Orderly.{tree-after}
 use Rattle.gd_laws.proofs.Sounds.{few-items, over-file, over-light, removals-light}
-use Rattle.gd_store.specs.Stands.{Stands}
-use Rattle.gd_store.proofs.Steps.{IsSound}
-
--- the numbers of a store that stands for effects have begun
-pub next-begun : (store : Inventory) (log : List Effect) → Stands store log → 1 < store.next
-next-begun store log stands = let P : Inventory → Type 0 = λ held. 1 < held.next in subst P (sym stands.held) (next-inventory log)
-
-pub number-begun : (store : Inventory) (log : List Effect) → Stands store log → 0 < store.number
-number-begun store log stands = let P : Inventory → Type 0 = λ held. 0 < held.number in subst P (sym stands.held) (number-positive log)
+use Rattle.gd_store.proofs.Steps.{IsSound, IsBegun}
 
 -- a folder that is made
 folder-light : (held : Inventory) (parent : ℕ) (name : List ℕ) (settle : Settle) → held.kept ≤ 536870912 → (after held (folder_effect parent name settle)).kept ≤ 536870912
@@ -35,12 +26,12 @@ folder-light held parent name (Free free) light = light
 folder-light held parent name (Over id) light = light
 folder-light held parent name Refuse light = light
 
-pub make-sound : (old new : Inventory) (log : List Effect) (parent : ℕ) (name : List ℕ) (behaviour : Conflict) → Stands old log → None ≡ make_folder_refusal old parent name behaviour
+pub make-sound : (old new : Inventory) (parent : ℕ) (name : List ℕ) (behaviour : Conflict) → IsBegun old → None ≡ make_folder_refusal old parent name behaviour
     → new ≡ after old (make_folder_effect old parent name behaviour) → IsSound new
-make-sound old new log parent name behaviour stands allowed is =
+make-sound old new parent name behaviour begun allowed is =
     subst IsSound (sym is) (record {
-      map = tree-after old (make_folder_effect old parent name behaviour) stands.sound (next-begun old log stands) (number-begun old log stands) (make-finds old parent name behaviour allowed).1;
-      light = folder-light old parent name (settled_in old parent name behaviour true) stands.light;
+      map = tree-after old (make_folder_effect old parent name behaviour) begun.sound begun.next begun.number (make-finds old parent name behaviour allowed).1;
+      light = folder-light old parent name (settled_in old parent name behaviour true) begun.light;
     })
 
 -- a file that is put under a folder
@@ -58,28 +49,28 @@ file-light held parent name bytes others (Free free) may = let light : held.kept
 file-light held parent name bytes others (Over id) may = let light : held.kept + (length bytes + others) ≤ 536870912 = may.room.light in omega arith
 file-light held parent name bytes others Refuse may = let light : held.kept + (length bytes + others) ≤ 536870912 = may.room.light in omega arith
 
-pub put-under-sound : (old new : Inventory) (log : List Effect) (parent : ℕ) (name bytes : List ℕ) (behaviour : Conflict) (condition : Condition) (others : ℕ) → Stands old log
+pub put-under-sound : (old new : Inventory) (parent : ℕ) (name bytes : List ℕ) (behaviour : Conflict) (condition : Condition) (others : ℕ) → IsBegun old
     → None ≡ put_under_refusal old parent name bytes behaviour condition others → new ≡ after old (file_effect parent name bytes (settled_in old parent name behaviour false)) → IsSound new
-put-under-sound old new log parent name bytes behaviour condition others stands allowed is =
+put-under-sound old new parent name bytes behaviour condition others begun allowed is =
     let settle : Settle = settled_in old parent name behaviour false in
     let may = may-put old parent name bytes behaviour condition others settle refl allowed in
     subst IsSound (sym is) (record {
-      map = under-sound old parent name bytes behaviour others settle stands.sound (next-begun old log stands) (number-begun old log stands) refl may;
+      map = under-sound old parent name bytes behaviour others settle begun.sound begun.next begun.number refl may;
       light = file-light old parent name bytes others settle may;
     })
 
 -- a file that is put over another
-pub put-over-sound : (old new : Inventory) (log : List Effect) (number : ℕ) (bytes : List ℕ) (condition : Condition) (others : ℕ) → Stands old log
+pub put-over-sound : (old new : Inventory) (number : ℕ) (bytes : List ℕ) (condition : Condition) (others : ℕ) → IsBegun old
     → None ≡ put_over_refusal old number bytes condition others → new ≡ after old (PutOver number bytes) → IsSound new
-put-over-sound old new log number bytes condition others stands allowed is =
+put-over-sound old new number bytes condition others begun allowed is =
     let a = clear _ _ _ allowed in
     let b = clear _ _ _ a.1 in
-    subst IsSound (sym is) (record { map = sound-over old number bytes stands.sound (number-begun old log stands) b.0; light = over-light old number bytes condition others allowed })
+    subst IsSound (sym is) (record { map = sound-over old number bytes begun.sound begun.number b.0; light = over-light old number bytes condition others allowed })
 
 -- an item that is moved
-pub moved-sound : (old new : Inventory) (log : List Effect) (number : ℕ) (name : Option (List ℕ)) (parent : Option ℕ) (condition : Condition) → Stands old log → None ≡ patch_refusal old number name parent condition
+pub moved-sound : (old new : Inventory) (number : ℕ) (name : Option (List ℕ)) (parent : Option ℕ) (condition : Condition) → IsBegun old → None ≡ patch_refusal old number name parent condition
     → new ≡ after_all old (patch_effect old number name parent ∷ []) → IsSound new
-moved-sound old new log number name parent condition stands allowed is =
+moved-sound old new number name parent condition begun allowed is =
     let a = clear _ _ _ allowed in
     let b = clear _ _ _ a.1 in
     let c = clear _ _ _ b.1 in
@@ -89,11 +80,11 @@ moved-sound old new log number name parent condition stands allowed is =
     let g = clear _ _ _ f.1 in
     let h = clear _ _ _ g.1 in
     subst IsSound (sym is)
-    (record { map = sound-moved old number (new_parent old number parent) (new_name old number name) stands.sound (number-begun old log stands) b.0 (un-not _ d.0) (un-not _ e.0) g.0 h.0; light = stands.light })
+    (record { map = sound-moved old number (new_parent old number parent) (new_name old number name) begun.sound begun.number b.0 (un-not _ d.0) (un-not _ e.0) g.0 h.0; light = begun.light })
 
 -- an item that is removed with all below it
-pub removed-sound : (old new : Inventory) (log : List Effect) (number : ℕ) (condition : Condition) → Stands old log → None ≡ remove_refusal old number condition → new ≡ after_all old (remove_effects old number) → IsSound new
-removed-sound old new log number condition stands allowed is =
+pub removed-sound : (old new : Inventory) (number : ℕ) (condition : Condition) → IsBegun old → None ≡ remove_refusal old number condition → new ≡ after_all old (remove_effects old number) → IsSound new
+removed-sound old new number condition begun allowed is =
     let a = clear _ _ _ allowed in
     let b = clear _ _ _ a.1 in
-    subst IsSound (sym is) (record { map = sound-removed-all old number stands.sound (number-begun old log stands) b.0; light = removals-light old number stands.light })
+    subst IsSound (sym is) (record { map = sound-removed-all old number begun.sound begun.number b.0; light = removals-light old number begun.light })

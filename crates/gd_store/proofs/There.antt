@@ -26,7 +26,7 @@ mapped-some f None = refl
 mapped-some f (Some x) = refl
 
 -- a number is there that is the root's or that of a living item
-there-is : (number : ℕ) (items : List LiveItem) → is_there number (map live_node items) ≡ (nat_eq number 1 || is_some (live_at number items))
+pub there-is : (number : ℕ) (items : List LiveItem) → is_there number (map live_node items) ≡ (nat_eq number 1 || is_some (live_at number items))
 there-is number items =
     ap (λ found. nat_eq number 1 || is_some found) (node-of-live number items) ∙ ap (λ b. nat_eq number 1 || b) (mapped-some live_node (live_at number items))
 

@@ -1,5 +1,5 @@
--- For which effects a store stands, and what a call of it answers.
-use Rattle.std.specs.Prelude.{◌≡◌, ℕ, ◌<◌, ◌≤◌, ◌⊎◌, Bool, true, List, Option, Some, None, Result, Ok, Err, IfOk, IfErr}
+-- For which effects, which epoch and which floor a store stands, and what a call of it answers.
+use Rattle.std.specs.Prelude.{◌≡◌, ℕ, ◌<◌, ◌≤◌, ◌⊎◌, Bool, true, List, filter, nat_lt, Option, Some, None, Result, Ok, Err, IfOk, IfErr}
 use Rattle.gd_item.specs.Inventory.{Inventory, Effect, after, inventory}
 use Rattle.gd_item.specs.Ids.{item_id}
 use Rattle.gd_item.specs.Records.{record_at}
@@ -7,14 +7,29 @@ use Rattle.gd_item.specs.Refusals.{touched, is_made}
 use Rattle.gd_item.specs.Sound.{IsItemMap}
 use Rattle.gd_item.specs.declared.id.ItemId.{ItemId}
 use Rattle.gd_item.specs.declared.item.Item.{Item}
+use Rattle.gd_item.specs.declared.live.Tombstone.{Tombstone}
 use Rattle.gd_item.specs.declared.fault.StoreFault.{StoreFault}
 use Rattle.gd_item.specs.declared.fault.StoreFault.TheVariants.{Memory}
 
--- the store holds what these effects make, and that is a tree; the kept bytes are within the limit
-pub record Stands (store : Inventory) (effects : List Effect) : Type 0 where
-  pub held : store ≡ inventory effects
-  pub sound : IsItemMap store
-  pub light : store.kept ≤ 536870912
+-- what a store has: its inventory, the epoch of its tokens, and the floor up to which its removals are forgotten
+pub record StoreValue : Type 0 where
+  pub held : Inventory
+  pub epoch : ℕ
+  pub floor : ℕ
+
+-- an inventory whose tombstones up to a floor are gone
+abbrev pub pruned : ℕ → Inventory → Inventory
+pruned floor held = record held { removed = filter (λ (stone : Tombstone). nat_lt floor stone.change) held.removed }
+
+-- the store holds what these effects make but for the tombstones up to the floor, which the drive's number has reached;
+-- that is a tree, and the kept bytes are within the limit
+pub record Stands (store : StoreValue) (effects : List Effect) (epoch floor : ℕ) : Type 0 where
+  pub held : store.held ≡ pruned floor (inventory effects)
+  pub epoch_is : store.epoch ≡ epoch
+  pub floor_is : store.floor ≡ floor
+  pub reached : floor ≤ store.held.number
+  pub sound : IsItemMap store.held
+  pub light : store.held.kept ≤ 536870912
 
 -- the call has no refusal and is done, or it has this refusal, or memory was wanting
 pub record Answers {T : Type 0} (refusal : Option StoreFault) (result : Result T StoreFault) (Done : T → Type 0) : Type 0 where

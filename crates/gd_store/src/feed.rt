@@ -1,4 +1,4 @@
-ghost use Rattle.std.specs.Prelude.{◌≡◌, ◌-◌, ◌^◌, ◌<◌, cond, nat_lt, length, slice_index, OnOk, IfOk};
+ghost use Rattle.std.specs.Prelude.{◌≡◌, ◌-◌, ◌^◌, ◌<◌, cond, filter, nat_lt, length, slice_index, OnOk, IfOk};
 ghost use Rattle.std.specs.Map.{keys_of};
 ghost use Rattle.gd_item.specs.Records.{in_change_order_from, root_change, live_changes, removals, first_of, last_of};
 
@@ -59,6 +59,13 @@ pub fn put_stones(
         }
     }
     Ok(())
+}
+
+/// Leaves out the removed items up to a floor. Takes no memory.
+pub fn drop_stones(stones: &mut Vec<Tombstone>, floor: u64)
+    ensures { stones.new.items ≡ filter (λ stone. nat_lt floor stone.change) stones.old.items }
+{
+    stones.retain(|stone| floor < stone.change);
 }
 
 /// The last of the first numbers, at most so many, where more follow.

@@ -1,9 +1,11 @@
-//! The items of a drive by number, as a plain list: what its steps do, and why they are refused.
+//! The items of a drive by number, as a plain list: what its steps do, and why they are refused. Beside them the epoch
+//! of the drive's tokens, and the floor up to which its removals are forgotten.
 #![tactic(auto)]
 
 mod children;
 mod edit;
 mod feed;
+mod items;
 mod look;
 mod moving;
 mod path;

@@ -1,20 +1,23 @@
-use Rattle.std.proofs.Common.{refl, ap, ◌∙◌}
+use Rattle.std.proofs.Common.{ℕ, List, Option, refl, ap, ◌∙◌, subst, ◌<◌, ◌≤◌, arith}
+use Rattle.gd_item.specs.Answers.{delta_reply}
+use Rattle.gd_item.specs.Pages.{asked}
 use Rattle.gd_item.specs.Sessions.{held}
 use Rattle.gd_item.specs.Steps.{state_of}
 use Rattle.gd_item.specs.declared.request.Request.TheVariants.{Delta}
-use Rattle.gd_api.specs.WholePage.{whole_delta}
-use Rattle.gd_api.proofs.Handling.{read-answered, unserved-answered, inside-stands}
+use Rattle.gd_api.proofs.Asking.{delta-answered}
+use Rattle.gd_api.proofs.Handling.{unserved-so, within-read}
 use Rattle.gd_api.proofs.drive.Drive.delta.Goals as goal
 
 pub returns-in-Ok : goal.returns-in-Ok
 returns-in-Ok c = record {
   answer = λ log stands.
-      let before = held (state_of log) in
-      read-answered c.args.self.now log (Delta c.args.token.now) c.in-Ok.reply (whole_delta before c.args.token.now)
-      (c.in-Ok.ensures (state_of log).effects (inside-stands c.args.self.now _ log c.self.view_is stands) ∙ ap (whole_delta before) c.as_ref.ensures.value) refl refl stands;
+      within-read c.args.self.now _ log (Delta c.args.token.now) c.in-Ok.reply c.self.view_is
+      (λ has. delta-answered _ log c.args.token.now c.in-Ok.reply has
+      (c.in-Ok.ensures (state_of log) has.store ∙ ap (λ (token : Option (List ℕ)). delta_reply (state_of log) c.self.inside.size (asked (state_of log) token)) c.as_ref.ensures.value)) stands;
 }
 
 pub returns-in-Err : goal.returns-in-Err
 returns-in-Err c = record {
-  answer = λ log stands. unserved-answered c.args.self.now log (Delta c.args.token.now) c.unserved.result (whole_delta (held (state_of log)) c.args.token.now) c.unserved.ensures stands;
+  answer = λ log stands.
+      within-read c.args.self.now _ log (Delta c.args.token.now) c.unserved.result c.self.view_is (λ has. unserved-so _ log (Delta c.args.token.now) c.unserved.result has c.unserved.ensures) stands;
 }

@@ -1,7 +1,10 @@
-use Rattle.std.proofs.Common.{ap, ◌∙◌}
-use Rattle.gd_item.specs.Inventory.{Inventory}
+use Rattle.std.proofs.Common.{◌≡◌, Bool, true, false, Some, [], ◌∷◌, ◌++◌, refl, sym, ap, ◌∙◌, subst}
+use Rattle.gd_item.specs.Inventory.{Inventory, inventory}
+use Rattle.gd_store.specs.Stands.{StoreValue, Stands}
 use Rattle.gd_item.proofs.Effects.{number-inventory}
 use Rattle.gd_store.proofs.store.Store.number.Goals as goal
 
 pub returns : goal.returns
-returns c = λ log stands. ap (λ (held : Inventory). held.number) (c.self.view_is ∙ stands.held) ∙ number-inventory log
+returns c =
+    λ log epoch floor stands.
+    c.number.ensures ∙ ap (λ (store : StoreValue). store.held.number) c.self.view_is ∙ ap (λ (held : Inventory). held.number) stands.held ∙ number-inventory log

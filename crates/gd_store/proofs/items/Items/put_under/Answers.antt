@@ -1,0 +1,33 @@
+use Rattle.std.proofs.Common.{sym}
+use Rattle.gd_laws.proofs.Allowed.{may-put, room-for-one, next-number, kept-fits, not-refused}
+use Rattle.gd_store.proofs.items.Items.put_under.Goals as goal
+
+pub add_file-requires-clause-room : goal.add_file-requires-clause-room
+add_file-requires-clause-room c =
+    let may = may-put c.args.self.now c.args.parent c.args.name.now c.args.bytes.now c.args.behaviour c.args.condition.now c.args.others c.in_ok-settle.settle c.in_ok-settle.ensures.ok.1 (sym c.in_ok-settle.ensures.ok.0) in
+    room-for-one c.args.self.now c.in_ok-settle.settle c.in-Free.free _ c.in-Free.is may.room
+
+pub add_file-requires-clause-number : goal.add_file-requires-clause-number
+add_file-requires-clause-number c =
+    let may = may-put c.args.self.now c.args.parent c.args.name.now c.args.bytes.now c.args.behaviour c.args.condition.now c.args.others c.in_ok-settle.settle c.in_ok-settle.ensures.ok.1 (sym c.in_ok-settle.ensures.ok.0) in
+    next-number c.args.self.now _ _ may.room
+
+pub add_file-requires-clause-kept : goal.add_file-requires-clause-kept
+add_file-requires-clause-kept c =
+    let may = may-put c.args.self.now c.args.parent c.args.name.now c.args.bytes.now c.args.behaviour c.args.condition.now c.args.others c.in_ok-settle.settle c.in_ok-settle.ensures.ok.1 (sym c.in_ok-settle.ensures.ok.0) in
+    kept-fits c.args.self.now _ c.args.others c.args.bytes.now c.in_ok-copy.copy c.in_ok-copy.ensures may.room
+
+pub put_bytes-requires-clause-number : goal.put_bytes-requires-clause-number
+put_bytes-requires-clause-number c =
+    let may = may-put c.args.self.now c.args.parent c.args.name.now c.args.bytes.now c.args.behaviour c.args.condition.now c.args.others c.in_ok-settle.settle c.in_ok-settle.ensures.ok.1 (sym c.in_ok-settle.ensures.ok.0) in
+    next-number c.args.self.now _ _ may.room
+
+pub put_bytes-requires-clause-kept : goal.put_bytes-requires-clause-kept
+put_bytes-requires-clause-kept c =
+    let may = may-put c.args.self.now c.args.parent c.args.name.now c.args.bytes.now c.args.behaviour c.args.condition.now c.args.others c.in_ok-settle.settle c.in_ok-settle.ensures.ok.1 (sym c.in_ok-settle.ensures.ok.0) in
+    kept-fits c.args.self.now _ c.args.others c.args.bytes.now c.in_ok-copy.copy c.in_ok-copy.ensures may.room
+
+pub unreachable-requires : goal.unreachable-requires
+unreachable-requires c =
+    let may = may-put c.args.self.now c.args.parent c.args.name.now c.args.bytes.now c.args.behaviour c.args.condition.now c.args.others c.in_ok-settle.settle c.in_ok-settle.ensures.ok.1 (sym c.in_ok-settle.ensures.ok.0) in
+    not-refused c.in_ok-settle.settle c.in-Refuse.is may.had

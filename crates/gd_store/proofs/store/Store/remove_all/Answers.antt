@@ -1,8 +1,0 @@
-use Rattle.std.proofs.Common.{◌+◌}
-use Rattle.gd_store.proofs.Removals.{removed-fields}
-use Rattle.gd_store.proofs.store.Store.remove_all.Goals as goal
-
-pub returns-clause-ok : goal.returns-clause-ok
-returns-clause-ok c =
-    removed-fields c.args.self.now c.self.inside.number (c.self.inside.last + 1) c.self.inside.kept c.self.inside.items.items c.remove_each.new.items.items c.self.inside.removed.items c.reserve.new.self.items
-    c.remove_each.new.removed.items c.self.inside.replaced.items c.args.order.now c.self.view_is c.remove_each.ensures.items c.in_ok-reserve.ensures.items c.remove_each.ensures.removed
