@@ -6,6 +6,7 @@ mod moves;
 mod names;
 mod reads;
 mod requests;
+mod sessions;
 mod store;
 
 use gd_item::{Condition, ItemId, Place};

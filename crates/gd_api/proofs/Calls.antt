@@ -1,5 +1,5 @@
 -- What single calls of the store give.
-use Rattle.std.proofs.Common.{◌≡◌, ℕ, suc, ◌-◌, ◌<◌, length, get_or, arith, Bool, true, false, ◌||◌, not, cond, nat_eq, List, [], ◌∷◌, ◌++◌, map, take, Option, Some, None, Ok, refl, sym, ap, ◌∙◌, subst, inl, inr}
+use Rattle.std.proofs.Common.{◌≡◌, ℕ, suc, ◌-◌, ◌<◌, length, get_or, arith, Bool, true, false, ◌||◌, not, cond, nat_eq, List, [], ◌∷◌, ◌++◌, map, take, Option, Some, None, Result, Ok, Err, IfOk, refl, sym, ap, ◌∙◌, subst, inl, inr}
 use Rattle.std.proofs.lemmas.Bool.{cases_Bool, eqb-true}
 use Rattle.std.specs.Option.{option_map}
 use Rattle.gd_names.specs.declared.conflict.Settle.{Settle}
@@ -135,3 +135,7 @@ last-name (name ∷ next ∷ names) last some is =
 pub last-in-path : (names : List (List ℕ)) (last : List ℕ) → 0 < length names → last ≡ get_or names (length names - 1) last → Some last ≡ name_in_path names
 last-in-path [] last some is = absurd (omega arith)
 last-in-path (name ∷ names) last some is = ap Some (last-name (name ∷ names) last some is)
+
+pub ok-so : {T E : Type 0} {P Q : T → Type 0} (result : Result T E) → ((x : T) → P x → Q x) → IfOk result P → IfOk result Q
+ok-so (Ok x) so told = so x told
+ok-so (Err e) so told = tt

@@ -86,8 +86,8 @@ session-refused drive log request reply why fault has cause made told = elim tol
 pub committed : (inside : DriveValue) (new : StoreValue) (left : SessionsValue) (log : List Step) (request : Request) (fault : Option StoreFault) (result : Result Reply StoreFault) (reply : Reply)
     → reply ≡ reply_of result → Has inside (state_of log) → refusal (state_of log) request ≡ by_store fault → ((who : Who) → openers_of (state_of log) who request ≡ (state_of log).openers)
     → store.Answers fault result (λ given. (given ≡ reply_to (state_of log) (after_request (state_of log) Own request) inside.size request)
-      × store.Stands new ((state_of log).effects ++ effects_of (state_of log) request) (state_of log).epoch (state_of log).floor
-      × upload.Stands left (sessions_of (state_of log) request) (length (state_of log).openers))
+    × store.Stands new ((state_of log).effects ++ effects_of (state_of log) request) (state_of log).epoch (state_of log).floor
+    × upload.Stands left (sessions_of (state_of log) request) (length (state_of log).openers))
     → OnErr result ((new ≡ inside.store) × (left ≡ inside.sessions)) → Serving inside (record inside { store = new; sessions = left }) log request reply
 committed inside new left log request fault (Ok given) reply made has cause same told kept =
     let state = state_of log in
@@ -116,7 +116,7 @@ pub stepped : (inside : DriveValue) (new : StoreValue) (log : List Step) (reques
     → reply ≡ reply_of result → Has inside (state_of log) → refusal (state_of log) request ≡ by_store fault → sessions_of (state_of log) request ≡ (state_of log).sessions
     → ((who : Who) → openers_of (state_of log) who request ≡ (state_of log).openers)
     → store.Answers fault result (λ given. (given ≡ reply_to (state_of log) (after_request (state_of log) Own request) inside.size request)
-      × store.Stands new ((state_of log).effects ++ effects_of (state_of log) request) (state_of log).epoch (state_of log).floor)
+    × store.Stands new ((state_of log).effects ++ effects_of (state_of log) request) (state_of log).epoch (state_of log).floor)
     → OnErr result (new ≡ inside.store) → Serving inside (record inside { store = new }) log request reply
 stepped inside new log request fault result reply made has cause sessions same told kept =
     let state = state_of log in
@@ -144,7 +144,7 @@ looked inside log request fault result reply made has cause effects sessions sam
 pub uploaded : (inside : DriveValue) (left : SessionsValue) (log : List Step) (request : Request) (fault : Option SessionFault) (result : Result Reply SessionFault) (reply : Reply)
     → reply ≡ session_reply_of result → Has inside (state_of log) → refusal (state_of log) request ≡ by_session fault → effects_of (state_of log) request ≡ []
     → upload.Answers fault result (λ given. (given ≡ reply_to (state_of log) (after_request (state_of log) Own request) inside.size request)
-      × ((who : Who) → upload.Stands left (sessions_of (state_of log) request) (length (openers_of (state_of log) who request))))
+    × ((who : Who) → upload.Stands left (sessions_of (state_of log) request) (length (openers_of (state_of log) who request))))
     → OnErr result (left ≡ inside.sessions) → Serving inside (record inside { sessions = left }) log request reply
 uploaded inside left log request fault (Ok given) reply made has cause effects told kept =
     let state = state_of log in

@@ -3,3 +3,4 @@ pub mod Calls
 pub mod Causes
 pub mod Handling
 pub mod Sending
+pub mod Stripping

@@ -30,10 +30,11 @@ use Rattle.gd_laws.proofs.Serving.{written_to}
 use Rattle.gd_store.specs.Stands as store
 use Rattle.gd_store.specs.Stands.{StoreValue}
 use Rattle.gd_upload.specs.Stands as upload
-use Rattle.gd_upload.specs.Stands.{SessionsValue, Received, begin_fault, filled_in}
+use Rattle.gd_upload.specs.Stands.{SessionsValue, Received, begin_fault, filled_in, target_in}
 use Rattle.gd_upload.specs.declared.progress.Progress.{Progress}
 use Rattle.gd_upload.specs.declared.progress.Progress.TheVariants.{More, Whole}
-use Rattle.gd_api.specs.Drives.{DriveValue, Has}
+use Rattle.gd_upload.specs.declared.target.Target.{Target}
+use Rattle.gd_api.specs.Drives.{DriveValue, Has, is_refusal}
 use Rattle.gd_api.specs.Replies.{Steps, reply_of, session_reply_of}
 use Rattle.gd_api.proofs.Handling.{Serving, accepted, refused-so, committed, session-refused, store-refused, answers-so, uploaded, session-answers-so}
 
@@ -73,6 +74,14 @@ cancel-told (Some fault) (Ok r) is ok = absurd cc
 cancel-told (Some fault) (Err f) is ok = let same : fault ≡ f = cc in record { ok = tt; err = inr (ap Some same) }
 
 -- ---- a session that is opened
+pub begun-told : (new : SessionsValue) (number : ℕ) (list : List Session) (openers : ℕ) (place : Place) (behaviour : Conflict) (copy condition : Condition) (defer : Bool) → copy ≡ condition
+    → upload.Answers (begin_fault list openers) (Ok number) (λ n. (n ≡ openers + 1) × upload.Stands new (opened (openers + 1) (Some place) behaviour copy defer list) (openers + 1))
+    → upload.Answers {T = Reply} (begin_fault list openers) (Ok (reply.Session number 0)) (λ r. (r ≡ reply.Session (openers + 1) 0) × upload.Stands new (opened (openers + 1) (Some place) behaviour condition defer list) (openers + 1))
+begun-told new number list openers place behaviour copy condition defer same told = record {
+  ok = (told.ok.0, (ap (λ n. reply.Session n 0) told.ok.1.0, subst (λ c. upload.Stands new (opened (openers + 1) (Some place) behaviour c defer list) (openers + 1)) same told.ok.1.1));
+  err = tt;
+}
+
 other-name : (state : State) (at : Address) (name : Option (List ℕ)) (behaviour : Conflict) (condition : Condition) (defer : Bool) → is_unlike name (name_in at) ≡ true
     → refusal state (OpenSession at name behaviour condition defer) ≡ Some (refuse 400 InvalidRequest)
 other-name state at name behaviour condition defer is =
@@ -114,8 +123,8 @@ pub begun : (inside : DriveValue) (left : SessionsValue) (log : List Step) (at :
     (result : Result Reply SessionFault) (given : Reply) → is_unlike name (name_in at) ≡ false → given ≡ session_reply_of result → Has inside (state_of log)
     → place-fault (state_of log) at behaviour condition ≡ None → place_of (held (state_of log)) at ≡ Some place
     → upload.Answers (begin_fault (state_of log).sessions (length (state_of log).openers)) result
-      (λ r. (r ≡ reply.Session (length (state_of log).openers + 1) 0)
-      × upload.Stands left (opened (length (state_of log).openers + 1) (Some place) behaviour condition defer (state_of log).sessions) (length (state_of log).openers + 1))
+    (λ r. (r ≡ reply.Session (length (state_of log).openers + 1) 0)
+    × upload.Stands left (opened (length (state_of log).openers + 1) (Some place) behaviour condition defer (state_of log).sessions) (length (state_of log).openers + 1))
     → OnErr result (left ≡ inside.sessions) → Serving inside (record inside { sessions = left }) log (OpenSession at name behaviour condition defer) given
 begun inside left log at name behaviour condition defer place result given is made has allowed found told kept =
     let state = state_of log in
@@ -125,10 +134,13 @@ begun inside left log at name behaviour condition defer place result given is ma
     let number : ℕ = length state.openers + 1 in
     uploaded inside left log request (begin_fault state.sessions (length state.openers)) result given made has cause refl
     (session-answers-so (begin_fault state.sessions (length state.openers)) result
-    (λ r so. (so.0, λ who.
-      let long : length (state.openers ++ who ∷ []) ≡ number = length_push state.openers who in
-      subst (λ n. upload.Stands left (opened number (place_of (held state) at) behaviour condition defer state.sessions) n) (sym long)
-      (subst (λ p. upload.Stands left (opened number p behaviour condition defer state.sessions) number) (sym found) so.1)))
+    (λ r so. (
+      so.0,
+      λ who.
+          let long : length (state.openers ++ who ∷ []) ≡ number = length_push state.openers who in
+          subst (λ n. upload.Stands left (opened number (place_of (held state) at) behaviour condition defer state.sessions) n) (sym long)
+          (subst (λ p. upload.Stands left (opened number p behaviour condition defer state.sessions) number) (sym found) so.1),
+    ))
     told) kept
 
 -- ---- a fragment
@@ -174,7 +186,7 @@ more-effects state session first last total bytes (Some open_session) at off =
 
 pub more-kept : (inside : DriveValue) (left : SessionsValue) (log : List Step) (session first last total : ℕ) (bytes : List ℕ) (expected : ℕ) → Has inside (state_of log)
     → upload.Answers (fragment_fault (held (state_of log)).kept (state_of log).sessions (session_at session (state_of log).sessions) first last total bytes) (Ok (More expected))
-      (Received inside.sessions left (state_of log).sessions (length (state_of log).openers) session last total bytes)
+    (Received inside.sessions left (state_of log).sessions (length (state_of log).openers) session last total bytes)
     → Serving inside (record inside { sessions = left }) log (Fragment session first last total bytes) (reply.More expected)
 more-kept inside left log session first last total bytes expected has told =
     let state = state_of log in
@@ -214,8 +226,8 @@ pub file-made : (inside : DriveValue) (new : StoreValue) (left : SessionsValue) 
     → sessions_of (state_of log) request ≡ without_session number (state_of log).sessions → ((who : Who) → openers_of (state_of log) who request ≡ (state_of log).openers)
     → effect_reply (held (state_of log)) (held (after_request (state_of log) Own request)) other (effects_of (state_of log) request) ≡ reply_to (state_of log) (after_request (state_of log) Own request) inside.size request
     → store.Answers (commit_refusal (state_of log) session bytes) result
-      (λ r. Steps new (state_of log).epoch (state_of log).floor (state_of log).effects (commit_effect (state_of log) session bytes ∷ []) r
-      × upload.Stands left (without_session number (state_of log).sessions) (length (state_of log).openers))
+    (λ r. Steps new (state_of log).epoch (state_of log).floor (state_of log).effects (commit_effect (state_of log) session bytes ∷ []) r
+    × upload.Stands left (without_session number (state_of log).sessions) (length (state_of log).openers))
     → OnErr result ((new ≡ inside.store) × (left ≡ inside.sessions)) → Serving inside (record inside { store = new; sessions = left }) log request given
 file-made inside new left log request number session bytes other result given made has cause effects list same says told kept =
     let state = state_of log in
@@ -232,7 +244,7 @@ abbrev pub Commits : StoreValue → StoreValue → SessionsValue → SessionsVal
 Commits old new live left number bytes result = (log : List Effect) (epoch floor : ℕ) (list : List Session) (openers : ℕ) (session : Session) → store.Stands old log epoch floor → upload.Stands live list openers
     → session_at number list ≡ Some session
     → store.Answers (put_refusal (inventory log) session.place bytes session.behaviour session.condition (held_bytes list - length session.filled)) result
-      (λ r. Steps new epoch floor log (put_effect (inventory log) session.place bytes session.behaviour ∷ []) r × upload.Stands left (without_session number list) openers)
+    (λ r. Steps new epoch floor log (put_effect (inventory log) session.place bytes session.behaviour ∷ []) r × upload.Stands left (without_session number list) openers)
 
 -- a fragment that completes it
 last-cause : (state : State) (session first last total : ℕ) (bytes : List ℕ) (found : Option Session) (open_session : Session) → session_at session state.sessions ≡ found → found ≡ Some open_session
@@ -252,7 +264,7 @@ last-effects state session first last total bytes open_session at on =
 pub whole-made : (inside : DriveValue) (new : StoreValue) (live left : SessionsValue) (log : List Step) (session first last total : ℕ) (bytes all : List ℕ) (result : Result Reply StoreFault) (given : Reply)
     → given ≡ reply_of result → Has inside (state_of log)
     → upload.Answers (fragment_fault (held (state_of log)).kept (state_of log).sessions (session_at session (state_of log).sessions) first last total bytes) (Ok (Whole all))
-      (Received inside.sessions live (state_of log).sessions (length (state_of log).openers) session last total bytes)
+    (Received inside.sessions live (state_of log).sessions (length (state_of log).openers) session last total bytes)
     → Commits inside.store new live left session all result → OnErr result ((new ≡ inside.store) × (left ≡ live))
     → Serving inside (record inside { store = new; sessions = left }) log (Fragment session first last total bytes) given
 whole-made inside new live left log session first last total bytes all result given made has told commits kept =
@@ -310,3 +322,66 @@ finished inside new left log session all result given made has told commits kept
     (ap (λ f. or_else (by_session f) (by_store (finish_refusal state found))) told.ok.0 ∙ ap (λ f. by_store (finish_refusal state f)) lives.1)
     (ap (effects_at (finish_effects state)) lives.1) refl (λ who. refl) refl
     (subst P whole (commits state.effects state.epoch state.floor state.sessions (length state.openers) s has.store has.sessions lives.1)) kept
+
+-- ---- the call that makes the file
+pub target-is : (copied : Option Target) (found : Option Session) (target : Target) (session : Session) → copied ≡ option_map target_in found → found ≡ Some session → copied ≡ Some target → target ≡ target_in session
+target-is copied None target session told found is = absurd cc
+target-is copied (Some first) target session told found is =
+    let same : first ≡ session = cc in
+    let given : Some target ≡ Some (target_in first) = sym is ∙ told in
+    let own : target ≡ target_in first = cc in
+    own ∙ ap target_in same
+
+pub target-there : {T : Type 0} (copied : Option Target) (found : Option Session) (session : Session) → copied ≡ option_map target_in found → found ≡ Some session → copied ≡ None → T
+target-there copied None session told found is = absurd cc
+target-there copied (Some first) session told found is = let none : Some (target_in first) ≡ None = sym told ∙ is in absurd cc
+
+pub put-so : (new : StoreValue) (log : List Effect) (epoch floor : ℕ) (list : List Session) (bytes : List ℕ) (target : Target) (others number : ℕ) (session : Session) (result : Result Reply StoreFault)
+    → target ≡ target_in session → others ≡ held_bytes list - length (filled_in (session_at number list)) → session_at number list ≡ Some session
+    → store.Answers (put_refusal (inventory log) target.place bytes target.behaviour target.condition others) result (Steps new epoch floor log (put_effect (inventory log) target.place bytes target.behaviour ∷ []))
+    → store.Answers (put_refusal (inventory log) session.place bytes session.behaviour session.condition (held_bytes list - length session.filled)) result
+    (Steps new epoch floor log (put_effect (inventory log) session.place bytes session.behaviour ∷ []))
+put-so new log epoch floor list bytes target others number session result is count found told =
+    let P : Target → ℕ → Type 0 = λ t n. store.Answers (put_refusal (inventory log) t.place bytes t.behaviour t.condition n) result (Steps new epoch floor log (put_effect (inventory log) t.place bytes t.behaviour ∷ [])) in
+    let same : others ≡ held_bytes list - length session.filled = count ∙ ap (λ f. held_bytes list - length (filled_in f)) found in
+    subst (λ n. P (target_in session) n) same (subst (λ t. P t others) is told)
+
+-- ---- what a fragment left
+pub whole-same : (old new : SessionsValue) (sessions : List Session) (openers session last total : ℕ) (bytes all : List ℕ) → Received old new sessions openers session last total bytes (Whole all) → new ≡ old
+whole-same old new sessions openers session last total bytes all received = elim (cases_Bool (is_completed (session_at session sessions) last total)) [
+  | inl on ↦ (received.whole on).1
+  | inr off ↦ let other : Whole all ≡ More (length (filled_in (session_at session (with_fragment session total bytes sessions)))) = (received.more off).0 in absurd cc
+]
+
+pub whole-left : (old new : SessionsValue) (sessions : List Session) (openers session last total : ℕ) (bytes : List ℕ) (progress : Progress) (all : List ℕ) → progress ≡ Whole all
+    → Received old new sessions openers session last total bytes progress → new ≡ old
+whole-left old new sessions openers session last total bytes progress all is received =
+    whole-same old new sessions openers session last total bytes all (subst (Received old new sessions openers session last total bytes) is received)
+
+refused-false : true ≡ false → ⊥
+refused-false is = cc
+
+pub commit-kept : (drive inside : DriveValue) (new : StoreValue) (live left : SessionsValue) (result : Result Reply StoreFault) (given : Reply) → inside ≡ drive → given ≡ reply_of result
+    → IfOk result (λ r. is_refusal r ≡ false) → OnErr result ((new ≡ inside.store) × (left ≡ live)) → live ≡ inside.sessions → is_refusal given ≡ true
+    → record inside { store = new; sessions = left } ≡ drive
+commit-kept drive inside new live left (Ok r) given is made served kept same refuses = absurd (refused-false (sym refuses ∙ ap is_refusal made ∙ served))
+commit-kept drive inside new live left (Err why) given is made served kept same refuses =
+    ap (λ (s : StoreValue). record inside { store = s; sessions = left }) kept.0 ∙ ap (λ (l : SessionsValue). record inside { sessions = l }) (kept.1 ∙ same) ∙ is
+
+pub fragment-failed : (inside : DriveValue) (left : SessionsValue) (log : List Step) (session first last total : ℕ) (bytes : List ℕ) (why : SessionFault) (given : Reply) → given ≡ session_reply_of (Err why) → Has inside (state_of log)
+    → upload.Answers (fragment_fault (held (state_of log)).kept (state_of log).sessions (session_at session (state_of log).sessions) first last total bytes) (Err why)
+    (Received inside.sessions left (state_of log).sessions (length (state_of log).openers) session last total bytes)
+    → left ≡ inside.sessions → Serving inside (record inside { sessions = left }) log (Fragment session first last total bytes) given
+fragment-failed inside left log session first last total bytes why given made has told kept =
+    let whole : record inside { sessions = left } ≡ inside = ap (λ (l : SessionsValue). record inside { sessions = l }) kept in
+    subst (λ d. Serving inside d log (Fragment session first last total bytes) given) (sym whole) (fragment-refused inside log session first last total bytes why given made has _ told)
+
+-- a fragment over the bytes that the drive keeps
+pub fragment-told : (inside live : SessionsValue) (sessions : List Session) (openers session first last total kept : ℕ) (held_kept : ℕ) (bytes slice : List ℕ) (field result : Result Progress SessionFault)
+    → kept ≡ held_kept → slice ≡ bytes → field ≡ result
+    → upload.Answers (fragment_fault kept sessions (session_at session sessions) first last total slice) field (Received inside live sessions openers session last total slice)
+    → upload.Answers (fragment_fault held_kept sessions (session_at session sessions) first last total bytes) result (Received inside live sessions openers session last total bytes)
+fragment-told inside live sessions openers session first last total kept held_kept bytes slice field result is same value told =
+    let P : ℕ → List ℕ → Result Progress SessionFault → Type 0 = λ k b r.
+    upload.Answers (fragment_fault k sessions (session_at session sessions) first last total b) r (Received inside live sessions openers session last total b) in
+    subst (λ k. P k bytes result) is (subst (λ b. P kept b result) same (subst (λ r. P kept slice r) value told))

@@ -25,7 +25,6 @@ pub fn path(alloc: Global, bytes: &str) -> Result<Address, Fail> {
 fn code_with(status: u16) -> ErrorCode {
     match status {
         404 => ErrorCode::ItemNotFound,
-        405 => ErrorCode::NotSupported,
         409 => ErrorCode::NameAlreadyExists,
         412 => ErrorCode::ResourceModified,
         507 => ErrorCode::QuotaLimitReached,

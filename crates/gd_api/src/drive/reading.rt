@@ -45,7 +45,7 @@ impl Drive {
         ensures answer { (log : List Step) → Stands self.now log
             → Serves self.now self.now log (Request.Delta token.now) result (whole_answer (state_of log) self.now.size (Request.Delta token.now)) }
     {
-        match feed::delta(&self.store, token.as_ref(), self.size) {
+        match feed::delta(self.alloc, &self.store, token.as_ref(), self.size) {
             Ok(reply) => reply,
             Err(NoMemory) => unserved(),
         }
