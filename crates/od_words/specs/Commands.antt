@@ -1,5 +1,5 @@
 -- Which command the words give, if they give one.
-use Rattle.std.specs.Prelude.{ℕ, ◌&&◌, cond, if◌then◌else◌, List, [], ◌∷◌, codes, option_and_then, option_map, Option, Some, None}
+use Rattle.std.specs.Prelude.{◌≡◌, ℕ, ◌≤◌, Bool, true, ◌&&◌, if◌then◌else◌, List, [], ◌∷◌, codes, nat_le, option_and_then, option_map, Option, Some, None, IfSome}
 use Rattle.std.specs.Str.{bytes_eq}
 use Rattle.gd_json.specs.Bases.{is_base}
 use Rattle.clap.specs.Words.{Row, Text, first_of}
@@ -10,9 +10,14 @@ use Rattle.od_words.specs.declared.command.Command.{Command}
 use Rattle.od_words.specs.declared.command.Command.TheVariants.{Sync, Monitor, Replay}
 use Rattle.od_words.specs.declared.command.Words.{Words}
 
--- what a sync is told, where the links' base and the host's name are such
+-- whether a number that was given is from 1 to the most
+abbrev pub is_count : ℕ → Option ℕ → Bool
+is_count most None = true
+is_count most (Some n) = nat_le 1 n && nat_le n most
+
+-- what a sync is told, where the links' base, the host's name and the number of workers are such
 abbrev pub checked : Words → Option Words
-checked words = if is_base words.url && is_host words.host then Some words else None
+checked words = if is_base words.url && is_host words.host && is_count 16 (Some words.workers) then Some words else None
 
 -- what was found for a sync
 abbrev pub words_in : List Row → Option Words
@@ -24,10 +29,12 @@ abbrev pub sync_in : List Row → Option Command
 sync_in rows = option_map (λ words. Sync words) (words_in rows)
 
 abbrev pub monitor_in : List Row → Option Command
-monitor_in rows = option_and_then (λ words. option_map (λ times. Monitor words times) (number_in (codes "times") rows)) (words_in rows)
+monitor_in rows = option_and_then (λ words. option_and_then (λ times. if is_count 1000000 (Some times) then Some (Monitor words times) else None)
+    (number_in (codes "times") rows)) (words_in rows)
 
 abbrev pub replay_in : List Row → Option Command
-replay_in rows = option_and_then (λ host. if is_host host then Some (Replay host (number_in (codes "generate") rows)) else None) (first_of (codes "host") rows)
+replay_in rows = option_and_then (λ host. if is_host host && is_count 5000 (number_in (codes "generate") rows)
+    then Some (Replay host (number_in (codes "generate") rows)) else None) (first_of (codes "host") rows)
 
 -- the command that `clap` finds at the words, the first of which names it
 unfoldable pub sync_of : List Text → Option Command
@@ -49,3 +56,15 @@ command_named name words =
 abbrev pub command_of : List Text → Option Command
 command_of [] = None
 command_of (name ∷ words) = command_named name (name ∷ words)
+
+-- what holds of each command that words give
+pub record FitsWords (words : Words) : Type 0 where
+  pub url : is_base words.url ≡ true
+  pub host : is_host words.host ≡ true
+  pub some : 1 ≤ words.workers
+  pub most : words.workers ≤ 16
+
+abbrev pub Fits : Command → Type 0
+Fits (Sync words) = FitsWords words
+Fits (Monitor words times) = FitsWords words × (1 ≤ times) × (times ≤ 1000000)
+Fits (Replay host generate) = (is_host host ≡ true) × IfSome generate (λ n. (1 ≤ n) × (n ≤ 5000))

@@ -1,6 +1,6 @@
-ghost use Rattle.std.specs.Prelude.{◌≡◌, Some, None, map, string_bytes, IfOk, IsErrOf};
+ghost use Rattle.std.specs.Prelude.{◌≡◌, ◌≤◌, Some, None, IfSome, IsTrue, map, string_bytes, IfOk, IsErrOf};
 ghost use Rattle.clap.specs.Words.{found_of, rows_of};
-ghost use Rattle.od_words.specs.Commands.{checked, command_named, command_of, monitor_in, monitor_of, replay_in, replay_of, sync_in, sync_of, words_in};
+ghost use Rattle.od_words.specs.Commands.{checked, is_count, Fits, FitsWords, command_named, command_of, monitor_in, monitor_of, replay_in, replay_of, sync_in, sync_of, words_in};
 
 use crate::command::{Command, UsageFault, Words};
 use crate::found::{find, flag, number, optional, text};
@@ -14,6 +14,7 @@ use std::alloc::Global;
 pub fn read_words(alloc: Global, words: &[String]) -> Result<Command, UsageFault>
     ensures ok { IfOk result (λ command. command_of (map string_bytes words.now) ≡ Some command) }
     ensures usage { IsErrOf result UsageFault.Usage → command_of (map string_bytes words.now) ≡ None }
+    ensures fits { IfOk result Fits }
 {
     match words {
         [first, ..] => read_named(alloc, first.as_str(), words),
@@ -24,6 +25,7 @@ pub fn read_words(alloc: Global, words: &[String]) -> Result<Command, UsageFault
 fn read_named(alloc: Global, name: &str, words: &[String]) -> Result<Command, UsageFault>
     ensures ok { IfOk result (λ command. command_named name.now (map string_bytes words.now) ≡ Some command) }
     ensures usage { IsErrOf result UsageFault.Usage → command_named name.now (map string_bytes words.now) ≡ None }
+    ensures fits { IfOk result Fits }
 {
     if name == "sync" {
         return read_sync(alloc, words);
@@ -40,6 +42,7 @@ fn read_named(alloc: Global, name: &str, words: &[String]) -> Result<Command, Us
 fn read_sync(alloc: Global, words: &[String]) -> Result<Command, UsageFault>
     ensures ok { IfOk result (λ command. sync_of (map string_bytes words.now) ≡ Some command) }
     ensures usage { IsErrOf result UsageFault.Usage → sync_of (map string_bytes words.now) ≡ None }
+    ensures fits { IfOk result Fits }
 {
     let command = sync_command(alloc)?;
     match find(command, words) {
@@ -51,6 +54,7 @@ fn read_sync(alloc: Global, words: &[String]) -> Result<Command, UsageFault>
 fn read_monitor(alloc: Global, words: &[String]) -> Result<Command, UsageFault>
     ensures ok { IfOk result (λ command. monitor_of (map string_bytes words.now) ≡ Some command) }
     ensures usage { IsErrOf result UsageFault.Usage → monitor_of (map string_bytes words.now) ≡ None }
+    ensures fits { IfOk result Fits }
 {
     let command = monitor_command(alloc)?;
     match find(command, words) {
@@ -62,6 +66,7 @@ fn read_monitor(alloc: Global, words: &[String]) -> Result<Command, UsageFault>
 fn read_replay(alloc: Global, words: &[String]) -> Result<Command, UsageFault>
     ensures ok { IfOk result (λ command. replay_of (map string_bytes words.now) ≡ Some command) }
     ensures usage { IsErrOf result UsageFault.Usage → replay_of (map string_bytes words.now) ≡ None }
+    ensures fits { IfOk result Fits }
 {
     let command = replay_command(alloc)?;
     match find(command, words) {
@@ -73,6 +78,7 @@ fn read_replay(alloc: Global, words: &[String]) -> Result<Command, UsageFault>
 fn sync_found(alloc: Global, matches: &ArgMatches<'_>) -> Result<Command, UsageFault>
     ensures ok { IfOk result (λ command. sync_in (rows_of (found_of matches.now)) ≡ Some command) }
     ensures usage { IsErrOf result UsageFault.Usage → sync_in (rows_of (found_of matches.now)) ≡ None }
+    ensures fits { IfOk result Fits }
 {
     match words_found(alloc, matches) {
         Ok(words) => Ok(Command::Sync(words)),
@@ -83,24 +89,26 @@ fn sync_found(alloc: Global, matches: &ArgMatches<'_>) -> Result<Command, UsageF
 fn monitor_found(alloc: Global, matches: &ArgMatches<'_>) -> Result<Command, UsageFault>
     ensures ok { IfOk result (λ command. monitor_in (rows_of (found_of matches.now)) ≡ Some command) }
     ensures usage { IsErrOf result UsageFault.Usage → monitor_in (rows_of (found_of matches.now)) ≡ None }
+    ensures fits { IfOk result Fits }
 {
     let words = match words_found(alloc, matches) {
         Ok(words) => words,
         Err(fault) => return Err(fault),
     };
     match number(matches, "times") {
-        Some(times) => Ok(Command::Monitor(words, times)),
-        None => Err(UsageFault::Usage),
+        Some(times) if is_count(1000000, Some(times)) => Ok(Command::Monitor(words, times)),
+        _ => Err(UsageFault::Usage),
     }
 }
 
 fn replay_found(alloc: Global, matches: &ArgMatches<'_>) -> Result<Command, UsageFault>
     ensures ok { IfOk result (λ command. replay_in (rows_of (found_of matches.now)) ≡ Some command) }
     ensures usage { IsErrOf result UsageFault.Usage → replay_in (rows_of (found_of matches.now)) ≡ None }
+    ensures fits { IfOk result Fits }
 {
     let host = text(alloc, matches, "host")?;
     let generate = number(matches, "generate");
-    if !is_host(host.as_bytes()) {
+    if !is_host(host.as_bytes()) || !is_count(5000, generate) {
         return Err(UsageFault::Usage);
     }
     Ok(Command::Replay { host, generate })
@@ -109,6 +117,7 @@ fn replay_found(alloc: Global, matches: &ArgMatches<'_>) -> Result<Command, Usag
 fn words_found(alloc: Global, matches: &ArgMatches<'_>) -> Result<Words, UsageFault>
     ensures ok { IfOk result (λ words. words_in (rows_of (found_of matches.now)) ≡ Some words) }
     ensures usage { IsErrOf result UsageFault.Usage → words_in (rows_of (found_of matches.now)) ≡ None }
+    ensures fits { IfOk result FitsWords }
 {
     let root = text(alloc, matches, "root")?;
     let hold = text(alloc, matches, "hold")?;
@@ -132,18 +141,30 @@ fn words_found(alloc: Global, matches: &ArgMatches<'_>) -> Result<Words, UsageFa
     check(alloc, words)
 }
 
-/// The words again, if they name a base of links and a host.
+/// The words again, if they name a base of links, a host and a number of workers.
 fn check(alloc: Global, words: Words) -> Result<Words, UsageFault>
     ensures ok { IfOk result (λ same. checked words ≡ Some same) }
     ensures usage { IsErrOf result UsageFault.Usage → checked words ≡ None }
+    ensures fits { IfOk result FitsWords }
 {
     match Wire::read(alloc, words.url.as_bytes()) {
         Ok(_) => {}
         Err(WireFault::BadBase) => return Err(UsageFault::Usage),
         Err(WireFault::Memory) => return Err(UsageFault::Memory),
     }
-    if !is_host(words.host.as_bytes()) {
+    if !is_host(words.host.as_bytes()) || !is_count(16, Some(words.workers)) {
         return Err(UsageFault::Usage);
     }
     Ok(words)
+}
+
+/// Whether a number that was given is from 1 to the most. `clap` takes no others, and the contract says so again.
+fn is_count(most: u32, given: Option<u32>) -> bool
+    ensures test { result ≡ is_count most given }
+    ensures fits { IsTrue result → IfSome given (λ n. (1 ≤ n) × (n ≤ most)) }
+{
+    match given {
+        Some(n) => 1 <= n && n <= most,
+        None => true,
+    }
 }
