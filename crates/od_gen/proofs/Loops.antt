@@ -12,7 +12,7 @@ pub one_more : (f : ℕ → List ℕ) (start old new : List ℕ) (i : ℕ) → o
 one_more f start old new i before made =
     let next : suc i ≡ i + 1 = omega arith in
     let whole : flat_map f (up_to (suc i)) ≡ flat_map f (up_to i) ++ f i =
-        flat_map-append f (up_to i) (i ∷ []) ∙ ap (λ (t : List ℕ). flat_map f (up_to i) ++ t) (append-nil (f i)) in
+    flat_map-append f (up_to i) (i ∷ []) ∙ ap (λ (t : List ℕ). flat_map f (up_to i) ++ t) (append-nil (f i)) in
     let text : flat_map f (up_to (i + 1)) ≡ flat_map f (up_to i) ++ f i = ap (λ n. flat_map f (up_to n)) (sym next) ∙ whole in
     made ∙ ap (λ (t : List ℕ). t ++ f i) before ∙ append_assoc start (flat_map f (up_to i)) (f i) ∙ ap (λ (t : List ℕ). start ++ t) (sym text)
 

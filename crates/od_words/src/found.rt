@@ -9,7 +9,10 @@ use gd_names::Text;
 use std::alloc::Global;
 
 /// What `clap` finds at the words, of which the first names the command.
-pub fn find<'a>(command: clap::Command<'a>, words: &'a [String]) -> Result<ArgMatches<'a>, UsageFault>
+pub fn find<'a>(
+    command: clap::Command<'a>,
+    words: &'a [String],
+) -> Result<ArgMatches<'a>, UsageFault>
     requires { is_simple_and_free (app_of command) ≡ true }
     ensures ok { IfOk result (λ m. found_in (app_of command.entry) (map string_bytes words.entry.now) ≡ Some (rows_of (found_of m))) }
     ensures usage { IsErrOf result UsageFault.Usage → found_in (app_of command.entry) (map string_bytes words.entry.now) ≡ None }
@@ -35,7 +38,11 @@ pub fn text(alloc: Global, matches: &ArgMatches<'_>, id: &str) -> Result<Text, U
 }
 
 /// The text that was found for an option, if it was given.
-pub fn optional(alloc: Global, matches: &ArgMatches<'_>, id: &str) -> Result<Option<Text>, UsageFault>
+pub fn optional(
+    alloc: Global,
+    matches: &ArgMatches<'_>,
+    id: &str,
+) -> Result<Option<Text>, UsageFault>
     ensures ok { IfOk result (λ t. first_of id.now (rows_of (found_of matches.now)) ≡ t) }
     ensures usage { IsErrOf result UsageFault.Usage → ⊥ }
 {

@@ -15,7 +15,8 @@ pub fn usage_text(alloc: Global, words: &[String]) -> Result<Text, NoMemory> {
 }
 
 /// What is said of words whose options `clap` takes.
-const REFUSED_VALUE: &str = "error: a value is refused: --host wants 1 to 63 letters, digits and dashes, and --url `http://`, a host, `:` and a port
+const REFUSED_VALUE: &str =
+    "error: a value is refused: --host wants 1 to 63 letters, digits and dashes, and --url `http://`, a host, `:` and a port
 
 For more information, try '--help'.
 ";
@@ -26,7 +27,9 @@ fn program<'a>(alloc: Global) -> Result<Command<'a>, AllocError> {
         .no_binary_name(true)
         .version("0.1.0")
         .about("Keeps a local folder and a drive the same")
-        .after_help("Start with `odsync sync --help`, which has each option with an example, and the exit codes.")
+        .after_help(
+            "Start with `odsync sync --help`, which has each option with an example, and the exit codes.",
+        )
         .subcommand_required(true)
         .arg_required_else_help(true)
         .disable_help_subcommand(true)

@@ -5,6 +5,7 @@ mod command;
 mod found;
 mod help;
 mod host;
+pub mod instances;
 mod options;
 mod reading;
 

@@ -72,7 +72,8 @@ fn generate<'a>(alloc: Global) -> Arg<'a>
     ensures rule { rule_of result ≡ generate_option }
     ensures global { result.global ≡ false }
 {
-    let help = "Play a made-up script of so many files, 1 to 5000, in place of standard input, as in `--generate 1200`";
+    let help =
+        "Play a made-up script of so many files, 1 to 5000, in place of standard input, as in `--generate 1200`";
     text_option(alloc, "generate", "N", help).value_parser(value_parser!(u32).range(1..=5000))
 }
 
@@ -88,10 +89,12 @@ fn with_required<'a>(alloc: Global, command: Command<'a>) -> Result<Command<'a>,
     ensures { IfOk result (λ c. app_of c ≡ with_required (app_of command.entry)) }
 {
     let root = "Folder to keep the same as the drive, as in `--root /home/ann/Drive`";
-    let hold = "Folder for files that are being replaced, on the same disk, as in `--hold /home/ann/.hold`";
+    let hold =
+        "Folder for files that are being replaced, on the same disk, as in `--hold /home/ann/.hold`";
     let db = "File that keeps what was synchronised, as in `--db /home/ann/.odsync.db`";
     let url = "Where the drive is served, as in `--url http://127.0.0.1:8080`";
-    let host = "Name of this client in the names of conflict copies, 1 to 63 letters, digits and dashes, as in `--host laptop`";
+    let host =
+        "Name of this client in the names of conflict copies, 1 to 63 letters, digits and dashes, as in `--host laptop`";
     let command = command.arg(required(alloc, "root", "FOLDER", root))?;
     let command = command.arg(required(alloc, "hold", "FOLDER", hold))?;
     let command = command.arg(required(alloc, "db", "FILE", db))?;
@@ -103,7 +106,8 @@ fn with_required<'a>(alloc: Global, command: Command<'a>) -> Result<Command<'a>,
 fn with_optional<'a>(alloc: Global, command: Command<'a>) -> Result<Command<'a>, AllocError>
     ensures { IfOk result (λ c. app_of c ≡ with_optional (app_of command.entry)) }
 {
-    let rules = "File of rules that choose what is synchronised; without it all is, as in `--rules /home/ann/sync_list`";
+    let rules =
+        "File of rules that choose what is synchronised; without it all is, as in `--rules /home/ann/sync_list`";
     let command = command.arg(text_option(alloc, "rules", "FILE", rules))?;
     let command = command.arg(resync(alloc))?;
     let command = command.arg(workers(alloc))?;
@@ -137,7 +141,9 @@ pub fn replay_command<'a>(alloc: Global) -> Result<Command<'a>, AllocError>
     ensures { IfOk result (λ c. app_of c ≡ replay_app) }
 {
     let command = Command::new(alloc, "replay")
-        .about("Plays a script from standard input against a drive in memory, and prints what comes of it")
+        .about(
+            "Plays a script from standard input against a drive in memory, and prints what comes of it",
+        )
         .after_long_help(EXIT_CODES);
     let command = command.arg(replay_host(alloc))?;
     let command = command.arg(generate(alloc))?;

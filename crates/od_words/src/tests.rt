@@ -44,8 +44,14 @@ const LINES: [(&str, &str); 22] = [
     ("replay --host", "usage"),
     ("replay --host=", "usage"),
     ("replay --host my_laptop", "usage"),
-    ("replay --host 012345678901234567890123456789012345678901234567890123456789abc", "replay"),
-    ("replay --host 012345678901234567890123456789012345678901234567890123456789abcd", "usage"),
+    (
+        "replay --host 012345678901234567890123456789012345678901234567890123456789abc",
+        "replay",
+    ),
+    (
+        "replay --host 012345678901234567890123456789012345678901234567890123456789abcd",
+        "usage",
+    ),
     ("replay --generate 1", "replay"),
     ("replay --generate=5000", "replay"),
     ("replay --generate 0", "usage"),
@@ -59,7 +65,11 @@ const LINES: [(&str, &str); 22] = [
 const BEHIND: [(&str, &str, &str); 14] = [
     ("sync", "--host h1", "sync"),
     ("sync", "", "usage"),
-    ("sync", "--host h1 --rules /rules --resync --workers 16", "sync"),
+    (
+        "sync",
+        "--host h1 --rules /rules --resync --workers 16",
+        "sync",
+    ),
     ("sync", "--host h1 --workers 1", "sync"),
     ("sync", "--host h1 --workers 0", "usage"),
     ("sync", "--host h1 --workers 17", "usage"),
@@ -86,7 +96,10 @@ fn lines_give_commands(rt: HostRuntime) -> Result<(), Fail> {
 fn options_give_commands(rt: HostRuntime) -> Result<(), Fail> {
     let alloc = rt.alloc();
     for (command, line, kind) in BEHIND {
-        assert!(rt; kind_behind(alloc, command, line)? == kind, "{command} .. {line}");
+        assert!(rt;
+            kind_behind(alloc, command, line)? == kind,
+            "{command} .. {line}"
+        );
     }
     Ok(())
 }
@@ -95,7 +108,11 @@ fn options_give_commands(rt: HostRuntime) -> Result<(), Fail> {
 fn a_base_of_links_is_wanted(rt: HostRuntime) -> Result<(), Fail> {
     let alloc = rt.alloc();
     let line = "sync --root /r --hold /h --db /d --host h1 --url";
-    for (url, kind) in [("http://a:1", "sync"), ("https://a:1", "usage"), ("http://a:1/", "usage")] {
+    for (url, kind) in [
+        ("http://a:1", "sync"),
+        ("https://a:1", "usage"),
+        ("http://a:1/", "usage"),
+    ] {
         let line = format!(in alloc; "{line} {url}")?;
         assert!(rt; kind_of(alloc, line.as_str())? == kind, "{url}");
     }
@@ -103,17 +120,25 @@ fn a_base_of_links_is_wanted(rt: HostRuntime) -> Result<(), Fail> {
 }
 
 /// Whether the words of a line are those of a sync with these.
-fn is_sync(alloc: Global, line: &str, rules: bool, resync: bool, workers: u32) -> Result<bool, AllocError> {
+fn is_sync(
+    alloc: Global,
+    line: &str,
+    rules: bool,
+    resync: bool,
+    workers: u32,
+) -> Result<bool, AllocError> {
     let words = words_of(alloc, line)?;
     match read_words(alloc, words.as_slice()) {
-        Ok(Command::Sync(words)) => Ok(words.root.as_str() == "/r"
-            && words.hold.as_str() == "/h"
-            && words.db.as_str() == "/d"
-            && words.url.as_str() == "http://a:1"
-            && words.host.as_str() == "h1"
-            && words.rules.is_some() == rules
-            && words.resync == resync
-            && words.workers == workers),
+        Ok(Command::Sync(words)) => Ok(
+            words.root.as_str() == "/r"
+                && words.hold.as_str() == "/h"
+                && words.db.as_str() == "/d"
+                && words.url.as_str() == "http://a:1"
+                && words.host.as_str() == "h1"
+                && words.rules.is_some() == rules
+                && words.resync == resync
+                && words.workers == workers,
+        ),
         _ => Ok(false),
     }
 }
@@ -123,7 +148,8 @@ fn options_have_their_values(rt: HostRuntime) -> Result<(), Fail> {
     let alloc = rt.alloc();
     let plain = "sync --root /r --hold /h --db /d --url http://a:1 --host h1";
     assert!(rt; is_sync(alloc, plain, false, false, 4)?);
-    let full = "sync --resync --workers=12 --rules=/s --host=h1 --url=http://a:1 --db=/d --hold=/h --root=/r";
+    let full =
+        "sync --resync --workers=12 --rules=/s --host=h1 --url=http://a:1 --db=/d --hold=/h --root=/r";
     assert!(rt; is_sync(alloc, full, true, true, 12)?);
     Ok(())
 }
@@ -135,14 +161,23 @@ fn text_for(alloc: Global, line: &str) -> Result<Text, Fail> {
 
 const TEXTS: [(&str, &str); 9] = [
     ("", "Usage: odsync <COMMAND>"),
-    ("--help", "sync     Makes a local folder and a drive the same, once"),
+    (
+        "--help",
+        "sync     Makes a local folder and a drive the same, once",
+    ),
     ("--version", "odsync 0.1.0"),
     ("what", "error: unrecognized subcommand 'what'"),
-    ("sync", "error: the following required arguments were not provided:"),
+    (
+        "sync",
+        "error: the following required arguments were not provided:",
+    ),
     ("sync --help", "[default: 4]"),
     ("sync --help", "as in `--url http://127.0.0.1:8080`"),
     ("sync --help", "  11  the drive's feed has no end"),
-    ("replay --host my_laptop", "--host wants 1 to 63 letters, digits and dashes"),
+    (
+        "replay --host my_laptop",
+        "--host wants 1 to 63 letters, digits and dashes",
+    ),
 ];
 
 #[test]

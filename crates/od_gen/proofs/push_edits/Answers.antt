@@ -1,5 +1,5 @@
-use Rattle.std.proofs.Common.{string_bytes, ap, ◌∙◌, append_assoc, ◌++◌, List, ℕ}
-use Rattle.od_gen.specs.Generated.{edits_text, user_text, other_text}
+use Rattle.std.proofs.Common.{string_bytes}
+use Rattle.od_gen.specs.Generated.{edits_text}
 use Rattle.od_gen.proofs.Loops.{one_more, both}
 use Rattle.od_gen.proofs.push_edits.Goals as goal
 

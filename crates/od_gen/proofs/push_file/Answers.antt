@@ -1,4 +1,4 @@
-use Rattle.std.proofs.Common.{ℕ, ◌++◌, ◌%◌, codes, string_bytes}
+use Rattle.std.proofs.Common.{◌++◌, ◌%◌, codes, string_bytes}
 use Rattle.od_gen.specs.Generated.{name_and_content, two_digits}
 use Rattle.od_gen.proofs.Loops.{both_ok}
 use Rattle.od_gen.proofs.push_file.Goals as goal
