@@ -13,7 +13,8 @@ use Rattle.gd_item.specs.declared.id.ItemId.{ItemId}
 use Rattle.gd_item.specs.declared.request.Address.TheVariants.{ByPath}
 use Rattle.gd_item.specs.declared.request.Request.TheVariants.{Patch}
 use Rattle.gd_item.specs.declared.step.Step.{Step}
-use Rattle.gd_store.specs.Stands as store
+use Rattle.gd_store.specs.Stands.{StoreValue}
+use Rattle.od_cli.specs.Worlds.{Holds}
 use Rattle.od_cli.specs.Played.{request_of}
 use Rattle.od_cli.specs.declared.line.Line.TheVariants.{OtherMove}
 
@@ -21,8 +22,8 @@ found-in : (found : Option ℕ) (parent : ItemId) → option_map item_id found �
 found-in None parent h = absurd cc
 found-in (Some n) parent h = let same : item_id n ≡ parent = cc in ap Some (ap (λ (id : ItemId). id.0) same)
 
-pub move-request : (log : List Step) (value : Inventory) (from to path above : List (List ℕ)) (name : List ℕ) (found : Option ItemId) (parent : ItemId) → store.Stands value (state_of log).effects
-    → ((effects : List Effect) → store.Stands value effects → found ≡ option_map item_id (number_at above (nodes_of (inventory effects)))) → found ≡ Some parent → above ≡ names_above to → name ≡ last_name to → path ≡ from
+pub move-request : (log : List Step) (value : StoreValue) (from to path above : List (List ℕ)) (name : List ℕ) (found : Option ItemId) (parent : ItemId) → Holds value (state_of log).effects
+    → ((effects : List Effect) → Holds value effects → found ≡ option_map item_id (number_at above (nodes_of (inventory effects)))) → found ≡ Some parent → above ≡ names_above to → name ≡ last_name to → path ≡ from
     → request_of (held (state_of log)) (OtherMove from to) ≡ Some (Patch (ByPath path) (Some name) (Some parent) Free)
 move-request log value from to path above name found parent stands by some is named copied =
     let effects : List Effect = (state_of log).effects in
