@@ -1,5 +1,5 @@
 -- The request of a move, where the folder above the new path is there.
-use Rattle.std.proofs.Common.{◌≡◌, ℕ, List, Option, Some, None, sym, ap, ◌∙◌}
+use Rattle.std.proofs.Common.{◌≡◌, ℕ, List, Option, Some, None, refl, sym, ap, ◌∙◌}
 use Rattle.std.specs.Option.{option_map}
 use Rattle.gd_item.specs.Ids.{item_id}
 use Rattle.gd_item.specs.Inventory.{Inventory, Effect, inventory}
@@ -32,3 +32,16 @@ move-request log value from to path above name found parent stands by some is na
     ap (λ (o : Option ℕ). option_map (λ n. Patch (ByPath from) (Some (last_name to)) (Some (item_id n)) Free) o) there
     ∙ ap (λ n. Some (Patch (ByPath from) (Some n) (Some parent) Free)) (sym named)
     ∙ ap (λ p. Some (Patch (ByPath p) (Some name) (Some parent) Free)) (sym copied)
+
+-- and where it is missing
+none-in : (found : Option ℕ) → option_map item_id found ≡ None → found ≡ None
+none-in None h = refl
+none-in (Some n) h = absurd cc
+
+pub move-nowhere : (log : List Step) (value : StoreValue) (from to above : List (List ℕ)) (found : Option ItemId) → Holds value (state_of log).effects
+    → ((effects : List Effect) → Holds value effects → found ≡ option_map item_id (number_at above (nodes_of (inventory effects)))) → found ≡ None → above ≡ names_above to → request_of (held (state_of log)) (OtherMove from to) ≡ None
+move-nowhere log value from to above found stands by none is =
+    let effects : List Effect = (state_of log).effects in
+    let at : number_at above (nodes_of (inventory effects)) ≡ None = none-in (number_at above (nodes_of (inventory effects))) (sym (by effects stands) ∙ none) in
+    let there : number_at (names_above to) (nodes_of (inventory effects)) ≡ None = ap (λ p. number_at p (nodes_of (inventory effects))) (sym is) ∙ at in
+    ap (λ (o : Option ℕ). option_map (λ n. Patch (ByPath from) (Some (last_name to)) (Some (item_id n)) Free) o) there

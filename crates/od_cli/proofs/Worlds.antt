@@ -15,7 +15,7 @@ use Rattle.gd_item.specs.Replies.{has_status}
 use Rattle.gd_item.specs.Refused.{Refusal, at_target, by_store, refuse, refusal}
 use Rattle.gd_item.specs.Refusals.{file_refusal, missing}
 use Rattle.gd_item.specs.Sessions.{State, held, new_state}
-use Rattle.gd_item.specs.Steps.{after_request, after_step, is_accepted, state_of}
+use Rattle.gd_item.specs.Steps.{after_request, after_step, held_by, is_accepted, state_of}
 use Rattle.gd_item.specs.Targets.{target_of}
 use Rattle.gd_item.specs.Versions.{version_at}
 use Rattle.gd_item.specs.Tokens.{fields_from, token_of_fields, token_of_text}
@@ -40,11 +40,10 @@ use Rattle.gd_item.specs.declared.step.Who.{Who}
 use Rattle.gd_item.specs.declared.step.Who.TheVariants.{Own}
 use Rattle.gd_item.specs.declared.token.Token.{Token}
 use Rattle.gd_api.specs.Drives.{DriveValue, Has, Stands, Handles, is_refusal}
+use Rattle.gd_store.specs.Stands.{StoreValue, Stands as StandsFor}
 use Rattle.gd_delta.specs.Served.{answer_to, is_last, Serves}
 use Rattle.gd_delta.specs.declared.pages.DeltaFault.{DeltaFault}
-use Rattle.gd_delta.specs.declared.pages.DeltaFault.TheVariants as faults
 use Rattle.gd_item.proofs.LogsGrow.{after_steps-append}
-use Rattle.gd_laws.specs.Served.{is_page, is_served_token}
 use Rattle.od_transfer.specs.Asking.{IsPageSize, is_last_link, may_answer, may_answer_content, may_answer_download}
 use Rattle.od_transfer.specs.Undisturbed.{is_servable}
 use Rattle.od_cli.specs.Worlds.{WorldValue, IsDriveOf, IsOwnReply, heard, is_about_session, is_delta, is_want_of_memory, page_size, unheard}
@@ -66,12 +65,12 @@ delta-rests state who token heard =
     elim (is_accepted state (Delta token) true) as (λ b. cond b (after_request state who (Delta token)) state ≡ state)
     [ true ↦ ap (λ (effects : List Effect). record state { effects = effects }) (append-nil state.effects) | false ↦ refl ]
 
-pub after-delta : (drive : DriveValue) (log now more : List Step) (who : Who) (token sent : Option (List ℕ)) → IsDriveOf drive log → now ≡ log → sent ≡ token → more ≡ now ++ Ask who (Delta sent) true true ∷ []
-    → IsDriveOf drive more
-after-delta drive log now more who token sent is same copied grown =
+pub after-delta : (drive : DriveValue) (log now more : List Step) (who : Who) (token sent : Option (List ℕ)) (step : Step) → IsDriveOf drive log → now ≡ log → sent ≡ token → step ≡ Ask who (Delta sent) true true
+    → more ≡ now ++ step ∷ [] → IsDriveOf drive more
+after-delta drive log now more who token sent step is same copied made grown =
     let at : List Step = log ++ Ask who (Delta token) true true ∷ [] in
     let rests : state_of at ≡ state_of log = state-push log (Ask who (Delta token) true true) ∙ delta-rests (state_of log) who token true in
-    let all : more ≡ at = grown ∙ ap (λ (l : List Step). l ++ Ask who (Delta sent) true true ∷ []) same ∙ ap (λ t. log ++ Ask who (Delta t) true true ∷ []) copied in
+    let all : more ≡ at = grown ∙ ap (λ (l : List Step). l ++ step ∷ []) same ∙ ap (λ s. log ++ s ∷ []) (made ∙ ap (λ t. Ask who (Delta t) true true) copied) in
     subst (IsDriveOf drive) (sym all) (record { stands = subst (Has drive) (sym rests) is.stands; size = is.size; plain = ap (λ (state : State). state.plain) rests ∙ is.plain })
 
 -- a page that is given is the drive's answer
@@ -102,23 +101,23 @@ own-page state token size page whole some serves last =
       kind = last-link page.link last;
     }
 
--- a token for which there is none is not served
-by-asks : (state : State) (size : ℕ) (fault : DeltaFault) → (fault ≡ faults.Memory → ⊥) → (asks : Asked) → Serves (answer_to state size asks) (Err fault) → is_page asks ≡ false
-by-asks state size fault other (Past position start) (inl is) = absurd (cc is)
-by-asks state size fault other (Past position start) (inr memory) = absurd (other (cc memory))
-by-asks state size fault other Latest serves = refl
-by-asks state size fault other Bad serves = refl
-by-asks state size fault other (Lost resync) serves = refl
-
-pub no-page : (state : State) (token : Option (List ℕ)) (size : ℕ) (fault : DeltaFault) → (fault ≡ faults.Memory → ⊥) → Serves (answer_to state size (asked state token)) (Err fault) → is_served_token state token ≡ false
-no-page state token size fault other serves = by-asks state size fault other (asked state token) serves
-
 -- the page that is given where no token is sent
-pub fresh-page : (state : State) (token : Option (List ℕ)) (size : ℕ) (page : Page) → token ≡ None → Serves (answer_to state size (asked state token)) (Ok page) → page ≡ page_past state 0 (held state).number size
-fresh-page state token size page none serves =
-    let is : Ok page ≡ answer_to state size (asked state token) = given-page (answer_to state size (asked state token)) page serves in
-    let same : Ok page ≡ Ok (page_past state 0 (held state).number size) = is ∙ ap (λ t. answer_to state size (asked state t)) none in
-    cc same
+pub fresh-page : (drive : DriveValue) (log : List Step) (lent : StoreValue) (size : ℕ) (page : Page) → IsDriveOf drive log → lent ≡ drive.store
+    → ((state : State) → StandsFor lent state.effects state.epoch state.floor → Serves (answer_to state size (asked state None)) (Ok page)) → page ≡ page_past (state_of log) 0 (held_by log).number size
+fresh-page drive log lent size page is same serves =
+    let state : State = state_of log in
+    let stands : StandsFor lent state.effects state.epoch state.floor = subst (λ s. StandsFor s state.effects state.epoch state.floor) (sym same) is.stands.store in
+    let given : Ok page ≡ Ok (page_past state 0 (held_by log).number size) = given-page (answer_to state size (asked state None)) page (serves state stands) in
+    cc given
+
+-- and where one is
+pub delta-reply : (drive : DriveValue) (log : List Step) (lent : StoreValue) (token sent : Option (List ℕ)) (size : ℕ) (page : Page) → IsDriveOf drive log → lent ≡ drive.store → sent ≡ token → 1 ≤ size
+    → ((state : State) → StandsFor lent state.effects state.epoch state.floor → Serves (answer_to state size (asked state sent)) (Ok page)) → is_last page.link ≡ true → IsOwnReply (state_of log) (Delta token) (reply.Page page)
+delta-reply drive log lent token sent size page is same copied some serves last =
+    let state : State = state_of log in
+    let stands : StandsFor lent state.effects state.epoch state.floor = subst (λ s. StandsFor s state.effects state.epoch state.floor) (sym same) is.stands.store in
+    let P : Option (List ℕ) → Type 0 = λ t. Serves (answer_to state size (asked state t)) (Ok page) in
+    own-page state token size page is.plain some (subst P copied (serves state stands)) last
 
 -- the kinds of the other replies
 found-kind : (found : Option LiveItem) → may_answer_content (about found_reply found) ≡ true
@@ -211,6 +210,12 @@ module _ (before after : DriveValue) (log : List Step) (request : Request) (give
     plain =
         ap (λ (state : State). state.plain) (state-push log (Ask who request true true)) ∙ plain-kept (state_of log) who request true ∙ drive.plain;
   }
+
+  pub logged : after.size ≡ before.size → (who : Who) (now more : List Step) (step : Step) (sent : Request) → now ≡ log → sent ≡ request → step ≡ Ask who sent true true → more ≡ now ++ step ∷ [] → IsDriveOf after more
+  logged size who now more step sent same copied made grown =
+      let all : more ≡ log ++ Ask who request true true ∷ [] =
+      grown ∙ ap (λ (l : List Step). l ++ step ∷ []) same ∙ ap (λ s. log ++ s ∷ []) (made ∙ ap (λ r. Ask who r true true) copied) in
+      subst (IsDriveOf after) (sym all) (one-more size who)
 
 -- a refusal leaves the drive as it was
 wants-refusal : (given : Reply) → is_want_of_memory given ≡ true → is_refusal given ≡ true

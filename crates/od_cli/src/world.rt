@@ -119,7 +119,7 @@ impl World {
         ensures faults { self.old.faults ≤ self.new.faults }
         ensures answers { self.old.answers ≤ self.new.answers }
     {
-        let Ok(sent) = token.clone() else {
+        let Ok(sent) = copy_token(token) else {
             return Err(AskFault::Memory);
         };
         match self.log.reserve(1) {
@@ -181,6 +181,16 @@ impl World {
             Request::Delta { token } => self.own_delta(alloc, token),
             _ => self.own_other(request),
         }
+    }
+}
+
+/// A copy of a token that may be there.
+fn copy_token(token: &Option<Text>) -> Result<Option<Text>, NoMemory>
+    ensures { IfOk result (λ copy. copy ≡ token.now) }
+{
+    match token {
+        Some(text) => Ok(Some(text.clone()?)),
+        None => Ok(None),
     }
 }
 
