@@ -12,18 +12,18 @@ use Rattle.gd_frame.specs.Messages.{IsMessage, HasNoMessage}
 use Rattle.gd_frame.specs.Frames.{request_frame, reply_frame, IsRequest, IsReply}
 use Rattle.gd_frame.specs.Feeding.{Fed}
 use Rattle.gd_frame.specs.Laws.{OneFrame}
-use Rattle.gd_frame.proofs.Heads.{Plain, plain, cause_never}
-use Rattle.gd_frame.proofs.Streams.{one_message, same_message}
+use Rattle.gd_frame.proofs.Heads.{Plain, plain, same_parts, cause_never}
+use Rattle.gd_frame.proofs.Streams.{same_message}
 
 pub one_request : (bytes : List ℕ) (f g : RequestFrame) → IsRequest bytes f → IsRequest bytes g → f ≡ g
 one_request bytes f g x y =
-    let same = one_message requests (plain Request) bytes [] x.0 (subst (IsMessage requests) (sym (append-nil bytes)) y.0) in
-    x.1 ∙ rw (same.1, same.2) (sym y.1)
+    let same = same_parts requests (plain Request) bytes x.0 y.0 in
+    x.1 ∙ ap (λ h. request_frame h x.0.body) same.0 ∙ ap (request_frame y.0.head) same.1 ∙ sym y.1
 
 pub one_reply : (bytes : List ℕ) (f g : ReplyFrame) → IsReply bytes f → IsReply bytes g → f ≡ g
 one_reply bytes f g x y =
-    let same = one_message replies (plain Reply) bytes [] x.0 (subst (IsMessage replies) (sym (append-nil bytes)) y.0) in
-    x.1 ∙ rw (same.1, same.2) (sym y.1)
+    let same = same_parts replies (plain Reply) bytes x.0 y.0 in
+    x.1 ∙ ap (λ h. reply_frame h x.0.body) same.0 ∙ ap (reply_frame y.0.head) same.1 ∙ sym y.1
 
 module _ {F : Type 0} (s : Syntax) (p : Plain s) (Is : List ℕ → F → Type 0) (is : (bytes : List ℕ) (f : F) → Is bytes f → IsMessage s bytes) (one : OneFrame Is) where
   pub whole_done : (place : ℕ) (held piece a rest new : List ℕ) (f : F) (result : Result (ReadStep F) NoMemory) → HasNoMessage s held → Fed s Is place held piece result new

@@ -1,5 +1,5 @@
 -- What a head at the front of bytes tells of the messages that they begin with.
-use Rattle.std.proofs.Common.{◌≡◌, ℕ, zero, suc, ◌+◌, ◌-◌, ◌*◌, ◌<◌, ◌≤◌, List, [], ◌∷◌, ◌++◌, ◌⊎◌, map, length, take, drop, Result, Ok, Err, inl, inr, refl, sym, ap, subst, ◌∙◌, arith, append_assoc, length-append, append-nil, length-drop}
+use Rattle.std.proofs.Common.{◌≡◌, ℕ, zero, suc, ◌+◌, ◌-◌, ◌*◌, ◌<◌, ◌≤◌, List, [], ◌∷◌, ◌++◌, ◌⊎◌, map, length, take, drop, Result, Ok, Err, inl, inr, refl, sym, ap, subst, ◌∙◌, arith, append_assoc, length-append, append-nil, length-drop, lit<}
 use Rattle.std.specs.Prelude.{replicate}
 use Rattle.std.proofs.lemmas.Bool.{cases_lt}
 use Rattle.std.proofs.lemmas.List.{take-append-le, take_at, drop_at, drop-append-le, take-append-drop, length-take-le, length-replicate}
@@ -13,7 +13,9 @@ use Rattle.gd_frame.specs.declared.message.MessageCause.TheVariants.{Head, Codin
 use Rattle.gd_frame.specs.Framing.{framing, IsAnnounced}
 use Rattle.gd_frame.specs.Syntax.{Syntax, requests, replies, syntax_of, Reads, HasNoHead}
 use Rattle.gd_frame.specs.Messages.{BeginsWith, IsMessage, HasNoMessage, NeverHasMessage, NeverBegins, HasNoFittingHead, IsUnframed, HasCause, HasOpenHead, Awaits}
-use Rattle.gd_frame.specs.Scanning.{HasHead, IsFramed}
+use Rattle.gd_frame.specs.declared.stream.Phase.{Phase}
+use Rattle.gd_frame.specs.declared.stream.Phase.TheVariants as phase
+use Rattle.gd_frame.specs.Scanning.{HasHead, IsFramed, Holds}
 
 -- bytes begin with one head at most
 abbrev pub Unique : Syntax → Type 0
@@ -182,3 +184,16 @@ whole s p bytes end body f enough =
 pub none_in_nothing : (s : Syntax) → Plain s → HasNoMessage s []
 none_in_nothing s p front rest e x =
     omega (arith, ap length e, length-append front rest, reads_length s front x.head x.body x.begins.reads, p.some x.head)
+
+-- of the same bytes
+pub same_parts : (s : Syntax) → Plain s → (bytes : List ℕ) (x y : IsMessage s bytes) → (x.head ≡ y.head) × (x.body ≡ y.body)
+same_parts s p bytes x y = p.unique bytes x.head y.head x.body y.body x.begins.reads y.begins.reads
+
+-- what a reader begins with
+pub holds_nothing : (s : Syntax) → Plain s → (held : List ℕ) (at : Phase) → held ≡ [] → at ≡ phase.Head → Holds s held at
+holds_nothing s p held at nothing head = rw (nothing, head) (lit< tt, none_in_nothing s p)
+
+-- what is held is no message
+pub holds_none : (s : Syntax) → Plain s → (held : List ℕ) (at : Phase) → Holds s held at → HasNoMessage s held
+holds_none s p held phase.Head h = h.1
+holds_none s p held (phase.Body end body) h = not_yet s p held end body h.1 h.0

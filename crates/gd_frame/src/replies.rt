@@ -10,7 +10,7 @@ ghost use Rattle.gd_frame.specs.declared.message.MessageCause.{MessageCause};
 use crate::frame::{ReplyFrame, reply_of};
 use crate::message::Kind;
 use crate::step::{ReadState, ReadStep};
-use crate::stream::{Phase, Taken, take_piece};
+use crate::stream::{Phase, Taken, forget, take_piece};
 use gd_names::NoMemory;
 use std::alloc::Global;
 use std::marker::Model;
@@ -42,27 +42,22 @@ fn take_reply(alloc: Global, place: u64, held: &mut Vec<u8>, phase: &mut Phase, 
     ensures fed { Fed replies IsReply place held.old.items piece.now result held.new.items }
     ensures holds { Holds replies held.new.items phase.new }
 {
-    let taken = take_piece(Kind::Reply, held, *phase, piece);
-    *phase = Phase::Head;
-    match taken {
+    match take_piece(Kind::Reply, held, *phase, piece) {
         Ok(Taken::Need(next)) => {
             *phase = next;
             Ok(ReadStep::Need)
         }
         Ok(Taken::Whole(end, used)) => {
             let frame = reply_of(alloc, held.as_slice(), end);
-            held.clear();
-            match frame {
-                Ok(frame) => Ok(ReadStep::Done(frame, used)),
-                Err(e) => Err(e),
-            }
+            forget(held, phase);
+            Ok(ReadStep::Done(frame?, used))
         }
         Ok(Taken::Bad(cause)) => {
-            held.clear();
+            forget(held, phase);
             Ok(ReadStep::Bad { place, cause })
         }
         Err(e) => {
-            held.clear();
+            forget(held, phase);
             Err(e)
         }
     }

@@ -1,6 +1,6 @@
-ghost use Rattle.std.specs.Prelude.{◌≡◌, ◌<◌, ◌+◌};
+ghost use Rattle.std.specs.Prelude.{◌≡◌, []};
 ghost use Rattle.gd_frame.specs.Syntax.{syntax_of};
-ghost use Rattle.gd_frame.specs.Scanning.{Holds, IsFramed, Takes};
+ghost use Rattle.gd_frame.specs.Scanning.{Holds, Takes};
 
 use crate::head::{HeadScan, scan};
 use crate::message::{Kind, MessageCause};
@@ -69,4 +69,13 @@ pub(crate) fn take_piece(kind: Kind, held: &mut Vec<u8>, phase: Phase, piece: &[
         Phase::Head => take_head(kind, held, piece),
         Phase::Body(end, body) => take_body(kind, held, end, body, piece),
     }
+}
+
+/// Lets go what is held.
+pub(crate) fn forget(held: &mut Vec<u8>, phase: &mut Phase)
+    ensures nothing { held.new.items ≡ [] }
+    ensures head { phase.new ≡ Phase.Head }
+{
+    held.clear();
+    *phase = Phase::Head;
 }

@@ -1,10 +1,9 @@
-use Rattle.std.proofs.Common.{◌≡◌, ◌<◌, length, sym, subst, lit<}
-use Rattle.gd_frame.specs.declared.message.Kind.TheVariants.{Reply}
+use Rattle.std.proofs.Common.{refl}
 use Rattle.gd_frame.specs.declared.stream.Phase.TheVariants.{Head}
+use Rattle.gd_frame.specs.declared.message.Kind.TheVariants.{Reply}
 use Rattle.gd_frame.specs.Syntax.{replies}
-use Rattle.gd_frame.specs.Scanning.{Holds}
-use Rattle.gd_frame.proofs.Heads.{plain, none_in_nothing}
+use Rattle.gd_frame.proofs.Heads.{plain, holds_nothing}
 use Rattle.gd_frame.proofs.replies.ReplyFrames.new.Goals as goal
 
 pub invariant_of-result : goal.invariant_of-result
-invariant_of-result c = subst (λ b. Holds replies b Head) (sym c.new.ensures.items) (lit< tt, none_in_nothing replies (plain Reply))
+invariant_of-result c = holds_nothing replies (plain Reply) c.new.result.items Head c.new.ensures.items refl
