@@ -1,7 +1,6 @@
 -- What a head at the front of bytes tells of the messages that they begin with.
-use Rattle.std.proofs.Common.{◌≡◌, ℕ, zero, suc, ◌+◌, ◌-◌, ◌*◌, ◌<◌, ◌≤◌, List, [], ◌∷◌, ◌++◌, ◌⊎◌, map, length, take, drop, Result, Ok, Err, inl, inr, refl, sym, ap, subst, ◌∙◌, arith, append_assoc, length-append, append-nil, length-drop, lit<}
+use Rattle.std.proofs.Common.{◌≡◌, ℕ, ◌+◌, ◌-◌, ◌<◌, ◌≤◌, List, [], ◌++◌, ◌⊎◌, length, take, drop, Result, Ok, Err, inl, inr, refl, sym, ap, subst, ◌∙◌, arith, append_assoc, length-append, append-nil, length-drop, lit<}
 use Rattle.std.specs.Prelude.{replicate}
-use Rattle.std.proofs.lemmas.Bool.{cases_lt}
 use Rattle.std.proofs.lemmas.List.{take-append-le, take_at, drop_at, drop-append-le, take-append-drop, length-take-le, length-replicate}
 use Rattle.std.proofs.Math.Seq.{take-append-add}
 use Rattle.httparse.specs.Grammar.{print_request, print_response}
@@ -10,12 +9,12 @@ use Rattle.gd_frame.specs.declared.message.Kind.{Kind}
 use Rattle.gd_frame.specs.declared.message.Kind.TheVariants.{Request, Reply}
 use Rattle.gd_frame.specs.declared.message.MessageCause.{MessageCause}
 use Rattle.gd_frame.specs.declared.message.MessageCause.TheVariants.{Head, Coding, Framing, Body, Meaning}
-use Rattle.gd_frame.specs.Framing.{framing, IsAnnounced}
+use Rattle.gd_frame.specs.Framing.{IsAnnounced}
 use Rattle.gd_frame.specs.Syntax.{Syntax, requests, replies, syntax_of, Reads, HasNoHead}
-use Rattle.gd_frame.specs.Messages.{BeginsWith, IsMessage, HasNoMessage, NeverHasMessage, NeverBegins, HasNoFittingHead, IsUnframed, HasCause, HasOpenHead, Awaits}
+use Rattle.gd_frame.specs.Messages.{IsMessage, HasNoMessage, NeverHasMessage, HasNoFittingHead, IsUnframed, HasCause, Awaits}
 use Rattle.gd_frame.specs.declared.stream.Phase.{Phase}
 use Rattle.gd_frame.specs.declared.stream.Phase.TheVariants as phase
-use Rattle.gd_frame.specs.Scanning.{HasHead, IsFramed, Holds}
+use Rattle.gd_frame.specs.Scanning.{IsFramed, Holds}
 
 -- bytes begin with one head at most
 abbrev pub Unique : Syntax → Type 0
@@ -80,7 +79,7 @@ same_head s p bytes more front rest tail h reads e x =
 pub never_big : (s : Syntax) → Plain s → (bytes tail : List ℕ) (h : s.Head) → Reads s bytes h tail → 65536 < length (s.print h) → HasNoFittingHead s bytes
 never_big s p bytes tail h reads big = record {
   never = λ more k rest b. let same = p.unique (bytes ++ more) h k (tail ++ more) rest (reads_more s bytes h tail more reads) b.reads in
-  omega (arith, ap (λ x. length (s.print x)) same.0, b.short);
+      omega (arith, ap (λ x. length (s.print x)) same.0, b.short);
   known = inr (inl (h, tail, reads));
 }
 
@@ -129,12 +128,15 @@ module _ (s : Syntax) (p : Plain s) (bytes : List ℕ) (end body : ℕ) (f : IsF
   awaits lacks =
       let more : List ℕ = replicate (body - length (drop end bytes)) 0 in
       let len : body ≡ length (drop end bytes ++ more) = omega (arith, within, length-drop end bytes, length-append (drop end bytes) more, length-replicate {A = ℕ} (body - length (drop end bytes)) 0) in
-      inr (more, record {
-        head = f.head;
-        body = drop end bytes ++ more;
-        begins = record { reads = reads_more s bytes f.head (drop end bytes) more f.begins.reads; short = f.begins.short; few = f.begins.few };
-        framed = f.framed ∙ ap Ok len;
-      })
+      inr (
+        more,
+        record {
+          head = f.head;
+          body = drop end bytes ++ more;
+          begins = record { reads = reads_more s bytes f.head (drop end bytes) more f.begins.reads; short = f.begins.short; few = f.begins.few };
+          framed = f.framed ∙ ap Ok len;
+        },
+      )
 
   pub goes_on : (more : List ℕ) → IsFramed s (bytes ++ more) end body
   goes_on more =

@@ -1,11 +1,9 @@
 -- A message ends after what was held, begins no other, and is the only one at the front of its stream.
-use Rattle.std.proofs.Common.{◌≡◌, ℕ, ◌+◌, ◌-◌, ◌<◌, ◌≤◌, List, [], ◌∷◌, ◌++◌, ◌⊎◌, length, take, drop, Result, Ok, Err, inl, inr, refl, sym, ap, subst, ◌∙◌, arith, append_assoc, append-nil, length-append}
+use Rattle.std.proofs.Common.{◌≡◌, ℕ, ◌+◌, ◌-◌, ◌≤◌, List, [], ◌∷◌, ◌++◌, length, take, drop, inl, inr, refl, sym, ap, subst, ◌∙◌, arith, append-nil, length-append}
 use Rattle.std.proofs.lemmas.Bool.{cases_lt}
-use Rattle.std.proofs.lemmas.List.{append_cancel_left, take_at, take-append-le, take-append-drop, nil_from_length, length-take-le}
+use Rattle.std.proofs.lemmas.List.{append_cancel_left, take_at, take-append-le, take-append-drop, nil_from_length}
 use Rattle.std.proofs.Math.Seq.{take-append-add}
-use Rattle.gd_frame.specs.declared.message.Kind.{Kind}
-use Rattle.gd_frame.specs.declared.message.Kind.TheVariants.{Request, Reply}
-use Rattle.gd_frame.specs.Syntax.{Syntax, syntax_of}
+use Rattle.gd_frame.specs.Syntax.{Syntax}
 use Rattle.gd_frame.specs.Messages.{IsMessage, HasNoMessage}
 use Rattle.gd_frame.specs.Splitting.{Splits}
 use Rattle.gd_frame.proofs.Heads.{Plain, ok_is, same_head}

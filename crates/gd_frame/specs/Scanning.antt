@@ -1,7 +1,6 @@
 -- What a look at the front of bytes tells of the head that stands there, and what a reader keeps of it.
-use Rattle.std.specs.Prelude.{◌≡◌, ℕ, ◌+◌, ◌-◌, ◌<◌, ◌≤◌, List, [], ◌++◌, length, drop, take, map, Result, Ok, Err, ⊤}
+use Rattle.std.specs.Prelude.{◌≡◌, ℕ, ◌+◌, ◌-◌, ◌<◌, ◌≤◌, List, ◌++◌, length, drop, take, Result, Ok, Err, ⊤}
 use Rattle.gd_names.specs.declared.memory.NoMemory.{NoMemory}
-use Rattle.httparse.specs.Spans.{name_and_value}
 use Rattle.gd_frame.specs.declared.message.MessageCause.{MessageCause}
 use Rattle.gd_frame.specs.declared.head.HeadScan.{HeadScan}
 use Rattle.gd_frame.specs.declared.head.HeadScan.TheVariants as scan
@@ -11,7 +10,7 @@ use Rattle.gd_frame.specs.declared.stream.Taken.{Taken}
 use Rattle.gd_frame.specs.declared.stream.Taken.TheVariants.{Need, Whole, Bad}
 use Rattle.gd_frame.specs.Framing.{framing}
 use Rattle.gd_frame.specs.Syntax.{Syntax, Reads}
-use Rattle.gd_frame.specs.Messages.{BeginsWith, IsMessage, HasNoMessage, HasCause, HasOpenHead, Awaits}
+use Rattle.gd_frame.specs.Messages.{BeginsWith, HasNoMessage, HasCause, HasOpenHead, Awaits}
 
 -- a head ends there, whose fields have these names and values
 pub record HasHead (s : Syntax) (bytes : List ℕ) (end : ℕ) (absent : Result ℕ MessageCause) (fields : List (List ℕ × List ℕ)) : Type 0 where

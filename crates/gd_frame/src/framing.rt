@@ -91,7 +91,11 @@ fn the_length(bytes: &[u8], headers: &[HeaderSpan]) -> Option<u64>
 }
 
 /// The length of the body that the headers announce, where `absent` is what it means that they do not.
-pub(crate) fn framing(absent: Result<u64, MessageCause>, bytes: &[u8], headers: &[HeaderSpan]) -> Result<u64, MessageCause>
+pub(crate) fn framing(
+    absent: Result<u64, MessageCause>,
+    bytes: &[u8],
+    headers: &[HeaderSpan],
+) -> Result<u64, MessageCause>
     requires within { All (IsHeaderWithin (length bytes.now)) headers.now }
     requires absent { IsAnnounced absent }
     ensures is { result ≡ framing absent (map (header_bytes bytes.now) headers.now) }

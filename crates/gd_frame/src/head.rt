@@ -30,7 +30,13 @@ pub(crate) enum HeadScan {
 }
 
 /// A whole head: within the limits it announces a body, or has a cause.
-fn whole(kind: Kind, absent: Result<u64, MessageCause>, bytes: &[u8], end: usize, headers: &[HeaderSpan]) -> HeadScan
+fn whole(
+    kind: Kind,
+    absent: Result<u64, MessageCause>,
+    bytes: &[u8],
+    end: usize,
+    headers: &[HeaderSpan],
+) -> HeadScan
     requires within { All (IsHeaderWithin (length bytes.now)) headers.now }
     requires head { HasHead (syntax_of kind) bytes.now end absent (map (header_bytes bytes.now) headers.now) }
     requires few { length headers.now ≤ 64 }
@@ -79,7 +85,13 @@ fn scan_request(bytes: &[u8]) -> HeadScan
 {
     let mut headers = [EMPTY_HEADER_SPAN; MAX_HEADERS];
     match parse_request(bytes, &mut headers) {
-        Ok(Status::Complete(head)) => whole(Kind::Request, Ok(0), bytes, head.len, &headers[..head.headers]),
+        Ok(Status::Complete(head)) => whole(
+            Kind::Request,
+            Ok(0),
+            bytes,
+            head.len,
+            &headers[..head.headers],
+        ),
         Ok(Status::Partial) => open(Kind::Request, bytes),
         Err(Error::TooManyHeaders) if bytes.len() < MAX_HEAD => many_in_request(bytes),
         Err(_) => HeadScan::Bad(MessageCause::Head),
@@ -106,7 +118,11 @@ fn without_length(status: u16) -> Result<u64, MessageCause>
     ensures is { result ≡ reply_without_length status }
     ensures announced { IsAnnounced result }
 {
-    if status == 204 { Ok(0) } else { Err(MessageCause::Framing) }
+    if status == 204 {
+        Ok(0)
+    } else {
+        Err(MessageCause::Framing)
+    }
 }
 
 fn scan_reply(bytes: &[u8]) -> HeadScan
@@ -114,7 +130,13 @@ fn scan_reply(bytes: &[u8]) -> HeadScan
 {
     let mut headers = [EMPTY_HEADER_SPAN; MAX_HEADERS];
     match parse_response(bytes, &mut headers) {
-        Ok(Status::Complete(head)) => whole(Kind::Reply, without_length(head.code), bytes, head.len, &headers[..head.headers]),
+        Ok(Status::Complete(head)) => whole(
+            Kind::Reply,
+            without_length(head.code),
+            bytes,
+            head.len,
+            &headers[..head.headers],
+        ),
         Ok(Status::Partial) => open(Kind::Reply, bytes),
         Err(Error::TooManyHeaders) if bytes.len() < MAX_HEAD => many_in_reply(bytes),
         Err(_) => HeadScan::Bad(MessageCause::Head),

@@ -37,7 +37,13 @@ impl Model for ReplyFrames {
     ghost invariant = { λ r. Holds replies r.held.items r.phase };
 }
 
-fn take_reply(alloc: Global, place: u64, held: &mut Vec<u8>, phase: &mut Phase, piece: &[u8]) -> Result<ReadStep<ReplyFrame>, NoMemory>
+fn take_reply(
+    alloc: Global,
+    place: u64,
+    held: &mut Vec<u8>,
+    phase: &mut Phase,
+    piece: &[u8],
+) -> Result<ReadStep<ReplyFrame>, NoMemory>
     requires { Holds replies held.old.items phase.old }
     ensures fed { Fed replies IsReply place held.old.items piece.now result held.new.items }
     ensures holds { Holds replies held.new.items phase.new }
@@ -96,11 +102,19 @@ impl ReplyFrames {
         ensures { Feeds replies IsReply self.old piece.now result self.new }
     {
         let before = self.held.as_slice().len() as u64;
-        let step = take_reply(self.alloc, self.place, &mut self.held, &mut self.phase, piece);
+        let step = take_reply(
+            self.alloc,
+            self.place,
+            &mut self.held,
+            &mut self.phase,
+            piece,
+        );
         match &step {
             Ok(ReadStep::Need) => {}
             Ok(ReadStep::Done(_, used)) => {
-                self.place = self.place.saturating_add(before.saturating_add(*used as u64));
+                self.place = self
+                    .place
+                    .saturating_add(before.saturating_add(*used as u64));
             }
             Ok(ReadStep::Bad { place: _, cause }) => self.state = ReadState::Bad(*cause),
             Err(_) => self.state = ReadState::Spent,

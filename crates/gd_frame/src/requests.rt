@@ -37,7 +37,13 @@ impl Model for RequestFrames {
     ghost invariant = { λ r. Holds requests r.held.items r.phase };
 }
 
-fn take_request(alloc: Global, place: u64, held: &mut Vec<u8>, phase: &mut Phase, piece: &[u8]) -> Result<ReadStep<RequestFrame>, NoMemory>
+fn take_request(
+    alloc: Global,
+    place: u64,
+    held: &mut Vec<u8>,
+    phase: &mut Phase,
+    piece: &[u8],
+) -> Result<ReadStep<RequestFrame>, NoMemory>
     requires { Holds requests held.old.items phase.old }
     ensures fed { Fed requests IsRequest place held.old.items piece.now result held.new.items }
     ensures holds { Holds requests held.new.items phase.new }
@@ -96,11 +102,19 @@ impl RequestFrames {
         ensures { Feeds requests IsRequest self.old piece.now result self.new }
     {
         let before = self.held.as_slice().len() as u64;
-        let step = take_request(self.alloc, self.place, &mut self.held, &mut self.phase, piece);
+        let step = take_request(
+            self.alloc,
+            self.place,
+            &mut self.held,
+            &mut self.phase,
+            piece,
+        );
         match &step {
             Ok(ReadStep::Need) => {}
             Ok(ReadStep::Done(_, used)) => {
-                self.place = self.place.saturating_add(before.saturating_add(*used as u64));
+                self.place = self
+                    .place
+                    .saturating_add(before.saturating_add(*used as u64));
             }
             Ok(ReadStep::Bad { place: _, cause }) => self.state = ReadState::Bad(*cause),
             Err(_) => self.state = ReadState::Spent,

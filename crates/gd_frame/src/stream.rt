@@ -46,7 +46,13 @@ fn take_head(kind: Kind, held: &mut Vec<u8>, piece: &[u8]) -> Result<Taken, NoMe
 }
 
 /// Takes a piece of a body.
-fn take_body(kind: Kind, held: &mut Vec<u8>, end: usize, body: usize, piece: &[u8]) -> Result<Taken, NoMemory>
+fn take_body(
+    kind: Kind,
+    held: &mut Vec<u8>,
+    end: usize,
+    body: usize,
+    piece: &[u8],
+) -> Result<Taken, NoMemory>
     requires { Holds (syntax_of kind) held.old.items (Phase.Body end body) }
     ensures { Takes (syntax_of kind) held.old.items piece.now result held.new.items }
 {
@@ -61,7 +67,12 @@ fn take_body(kind: Kind, held: &mut Vec<u8>, end: usize, body: usize, piece: &[u
 }
 
 /// Takes a piece of a message.
-pub(crate) fn take_piece(kind: Kind, held: &mut Vec<u8>, phase: Phase, piece: &[u8]) -> Result<Taken, NoMemory>
+pub(crate) fn take_piece(
+    kind: Kind,
+    held: &mut Vec<u8>,
+    phase: Phase,
+    piece: &[u8],
+) -> Result<Taken, NoMemory>
     requires { Holds (syntax_of kind) held.old.items phase }
     ensures { Takes (syntax_of kind) held.old.items piece.now result held.new.items }
 {

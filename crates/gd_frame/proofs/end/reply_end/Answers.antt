@@ -1,4 +1,4 @@
-use Rattle.std.proofs.Common.{◌≡◌, ◌+◌, ◌-◌, ◌<◌, ◌≤◌, length, arith}
+use Rattle.std.proofs.Common.{◌+◌, ◌<◌, ◌≤◌, length, arith}
 use Rattle.gd_frame.specs.declared.message.Kind.TheVariants.{Reply}
 use Rattle.gd_frame.specs.Syntax.{replies}
 use Rattle.gd_frame.proofs.Heads.{plain, within, not_yet, awaits, whole}

@@ -1,4 +1,4 @@
-use Rattle.std.proofs.Common.{◌≡◌, inl, ap, ◌∙◌, arith, Err}
+use Rattle.std.proofs.Common.{inl, ap, Err}
 use Rattle.gd_frame.specs.Syntax.{requests}
 use Rattle.gd_frame.proofs.Heads.{never_many}
 use Rattle.gd_frame.proofs.Rooms.{room_for_request, by_error}

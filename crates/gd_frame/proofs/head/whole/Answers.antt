@@ -1,7 +1,6 @@
-use Rattle.std.proofs.Common.{◌≡◌, ◌≤◌, drop, length, sym, ◌∙◌, arith}
+use Rattle.std.proofs.Common.{drop, sym, ◌∙◌, arith}
 use Rattle.std.proofs.lemmas.List.{length-map}
 use Rattle.gd_frame.specs.Syntax.{syntax_of}
-use Rattle.gd_frame.specs.Messages.{BeginsWith}
 use Rattle.gd_frame.proofs.Heads.{plain, never_big, cause_of}
 use Rattle.gd_frame.proofs.head.whole.Goals as goal
 

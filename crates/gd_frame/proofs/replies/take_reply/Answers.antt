@@ -1,4 +1,4 @@
-use Rattle.std.proofs.Common.{◌≡◌, subst, ◌∙◌}
+use Rattle.std.proofs.Common.{subst, ◌∙◌}
 use Rattle.gd_frame.specs.declared.message.Kind.TheVariants.{Reply}
 use Rattle.gd_frame.specs.Syntax.{replies}
 use Rattle.gd_frame.specs.Frames.{IsReply}

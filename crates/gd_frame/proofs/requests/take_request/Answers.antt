@@ -1,4 +1,4 @@
-use Rattle.std.proofs.Common.{◌≡◌, subst, ◌∙◌}
+use Rattle.std.proofs.Common.{subst, ◌∙◌}
 use Rattle.gd_frame.specs.declared.message.Kind.TheVariants.{Request}
 use Rattle.gd_frame.specs.Syntax.{requests}
 use Rattle.gd_frame.specs.Frames.{IsRequest}

@@ -1,4 +1,4 @@
-use Rattle.std.proofs.Common.{◌≡◌, ◌+◌, ◌-◌, ◌<◌, ◌++◌, length, sym, ap, subst, arith, length-append}
+use Rattle.std.proofs.Common.{◌+◌, ◌<◌, ◌++◌, length, sym, ap, subst, arith, length-append}
 use Rattle.gd_frame.specs.Syntax.{syntax_of}
 use Rattle.gd_frame.specs.Scanning.{IsFramed}
 use Rattle.gd_frame.proofs.Heads.{plain, not_yet, awaits, goes_on}

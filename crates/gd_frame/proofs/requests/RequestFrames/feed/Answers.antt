@@ -1,4 +1,4 @@
-use Rattle.std.proofs.Common.{◌≡◌, subst}
+use Rattle.std.proofs.Common.{subst}
 use Rattle.gd_frame.specs.declared.message.Kind.TheVariants.{Request}
 use Rattle.gd_frame.specs.Reading.{Reading}
 use Rattle.gd_frame.specs.Messages.{HasNoMessage}
