@@ -10,8 +10,8 @@ use Rattle.gd_frame.specs.declared.message.Kind.TheVariants.{Request, Reply}
 use Rattle.gd_frame.specs.declared.message.MessageCause.{MessageCause}
 use Rattle.gd_frame.specs.declared.message.MessageCause.TheVariants.{Head, Coding, Framing, Body, Meaning}
 use Rattle.gd_frame.specs.Framing.{IsAnnounced}
-use Rattle.gd_frame.specs.Syntax.{Syntax, requests, replies, syntax_of, Reads, HasNoHead}
-use Rattle.gd_frame.specs.Messages.{IsMessage, HasNoMessage, NeverHasMessage, HasNoFittingHead, IsUnframed, HasCause, Awaits}
+use Rattle.gd_frame.specs.Syntax.{Syntax, requests, replies, syntax_of, Reads, HasNoHead, MayBecomeHead}
+use Rattle.gd_frame.specs.Messages.{HasOpenHead, IsMessage, HasNoMessage, NeverHasMessage, HasNoFittingHead, IsUnframed, HasCause, Awaits}
 use Rattle.gd_frame.specs.declared.stream.Phase.{Phase}
 use Rattle.gd_frame.specs.declared.stream.Phase.TheVariants as phase
 use Rattle.gd_frame.specs.Scanning.{IsFramed, Holds}
@@ -199,3 +199,43 @@ holds_nothing s p held at nothing head = rw (nothing, head) (lit< tt, none_in_no
 pub holds_none : (s : Syntax) → Plain s → (held : List ℕ) (at : Phase) → Holds s held at → HasNoMessage s held
 holds_none s p held phase.Head h = h.1
 holds_none s p held (phase.Body end body) h = not_yet s p held end body h.1 h.0
+
+-- a cause is that of the head, or of what a head announces
+cause_parts : (s : Syntax) (cause : MessageCause) (bytes : List ℕ) → HasCause s cause bytes → (HasNoFittingHead s bytes × (cause ≡ Head)) ⊎ IsUnframed s cause bytes
+cause_parts s Head bytes c = inl (c, refl)
+cause_parts s Coding bytes c = inr c
+cause_parts s Framing bytes c = inr c
+cause_parts s Body bytes c = inr c
+cause_parts s Meaning bytes c = absurd c
+
+fits_none : (s : Syntax) (bytes : List ℕ) (cause : MessageCause) → HasNoFittingHead s bytes → IsUnframed s cause bytes → ⊥
+fits_none s bytes cause none u = none.never [] u.head (u.rest ++ []) (record { reads = reads_more s bytes u.head u.rest [] u.begins.reads; short = u.begins.short; few = u.begins.few })
+
+-- bytes have one cause at most
+pub one_cause : (s : Syntax) → Plain s → (bytes : List ℕ) (a b : MessageCause) → HasCause s a bytes → HasCause s b bytes → a ≡ b
+one_cause s p bytes a b x y =
+    elim (cause_parts s a bytes x) [
+      | inl f ↦ elim (cause_parts s b bytes y) [
+        | inl g ↦ f.1 ∙ sym g.1
+        | inr v ↦ absurd (fits_none s bytes b f.0 v)
+      ]
+      | inr u ↦ elim (cause_parts s b bytes y) [
+        | inl g ↦ absurd (fits_none s bytes a g.0 u)
+        | inr v ↦ err_is (sym u.framed ∙ ap s.announced (p.unique bytes u.head v.head u.rest v.rest u.begins.reads v.begins.reads).0 ∙ v.framed)
+      ]
+    ]
+
+open_head : (s : Syntax) (bytes : List ℕ) → HasOpenHead s bytes → MayBecomeHead s bytes → ((more : List ℕ) → HasNoHead s (bytes ++ more)) ⊎ ((h : s.Head) × (rest : List ℕ) × Reads s bytes h rest) ⊎ (65536 ≤ length bytes) → s.Waits bytes
+open_head s bytes o (inl m) (inl never) = absurd (never m.0 m.1 [] m.2)
+open_head s bytes o (inr waits) (inl never) = waits
+open_head s bytes o may (inr (inl h)) = absurd (o.none h.0 h.1 h.2)
+open_head s bytes o may (inr (inr long)) = absurd (omega (arith, long, o.short))
+
+-- bytes that wait for more have no cause, but inside a target
+pub waits_only : (s : Syntax) → Plain s → (bytes : List ℕ) (cause : MessageCause) → Awaits s bytes → HasCause s cause bytes → s.Waits bytes
+waits_only s p bytes cause (inr m) c = absurd (cause_never s p cause bytes c m.0 (bytes ++ m.0) [] (sym (append-nil (bytes ++ m.0))) m.1)
+waits_only s p bytes cause (inl o) c =
+    elim (cause_parts s cause bytes c) [
+      | inl f ↦ open_head s bytes o o.may f.0.known
+      | inr u ↦ absurd (o.none u.head u.rest u.begins.reads)
+    ]

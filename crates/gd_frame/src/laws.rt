@@ -1,6 +1,6 @@
 ghost use Rattle.gd_frame.specs.Frames.{IsRequest, IsReply};
 ghost use Rattle.gd_frame.specs.Syntax.{requests, replies};
-ghost use Rattle.gd_frame.specs.Laws.{OneReading, NoPrefix, BadForGood, OneFrame, WholeIsDone};
+ghost use Rattle.gd_frame.specs.Laws.{OneReading, NoPrefix, BadForGood, OneFrame, WholeIsDone, CutAnywhere};
 ghost use Rattle.gd_frame.specs.declared.message.Kind.{Kind};
 
 /// However a stream is cut, its messages are these and no others.
@@ -36,4 +36,14 @@ pub fn whole_request_done()
 /// A whole reply is given as such, whatever follows it.
 pub fn whole_reply_done()
     ensures { WholeIsDone replies IsReply }
+{}
+
+/// A stream of requests may be cut anywhere.
+pub fn requests_cut_anywhere()
+    ensures { CutAnywhere requests IsRequest }
+{}
+
+/// A stream of replies may be cut anywhere.
+pub fn replies_cut_anywhere()
+    ensures { CutAnywhere replies IsReply }
 {}
