@@ -24,6 +24,32 @@ pub(crate) enum Taken {
     Bad(MessageCause),
 }
 
+/// Takes a piece while nothing is held: of a piece with many messages the first alone is copied.
+fn take_first(
+    kind: Kind,
+    held: &mut Vec<u8>,
+    piece: &[u8],
+) -> Result<Taken, NoMemory>
+    requires { held.old.items ≡ [] }
+    ensures { Takes (syntax_of kind) held.old.items piece.now result held.new.items }
+{
+    match scan(kind, piece) {
+        HeadScan::Open => {
+            held.extend_from_slice(piece)?;
+            Ok(Taken::Need(Phase::Head))
+        }
+        HeadScan::Bad(cause) => Ok(Taken::Bad(cause)),
+        HeadScan::Framed(end, body) => {
+            if piece.len() - end < body {
+                held.extend_from_slice(piece)?;
+                return Ok(Taken::Need(Phase::Body(end, body)));
+            }
+            held.extend_from_slice(&piece[..end + body])?;
+            Ok(Taken::Whole(end, end + body))
+        }
+    }
+}
+
 /// Takes a piece while no head is whole.
 fn take_head(kind: Kind, held: &mut Vec<u8>, piece: &[u8]) -> Result<Taken, NoMemory>
     requires { Holds (syntax_of kind) held.old.items Phase.Head }
@@ -77,6 +103,7 @@ pub(crate) fn take_piece(
     ensures { Takes (syntax_of kind) held.old.items piece.now result held.new.items }
 {
     match phase {
+        Phase::Head if held.as_slice().is_empty() => take_first(kind, held, piece),
         Phase::Head => take_head(kind, held, piece),
         Phase::Body(end, body) => take_body(kind, held, end, body, piece),
     }
