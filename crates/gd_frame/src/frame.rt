@@ -57,38 +57,67 @@ fn fields_of(alloc: Global, bytes: &[u8], headers: &[HeaderSpan]) -> Result<List
     Ok(fields)
 }
 
-/// The parts of a whole request whose head ends there.
-pub(crate) fn request_of(alloc: Global, bytes: &[u8], end: usize) -> Result<RequestFrame, NoMemory>
-    requires framed { IsFramed requests bytes.now end (length bytes.now - end) }
-    requires within { end ≤ length bytes.now }
-    ensures { IfOk result (IsRequest bytes.now) }
+/// The bytes from there on, in the memory of all.
+fn without_front(mut bytes: Vec<u8>, end: usize) -> Vec<u8>
+    requires { end ≤ length bytes.items }
+    ensures { result.items ≡ drop end bytes.items }
 {
+    let rest = bytes.as_slice().len() - end;
+    bytes.copy_within(end.., 0);
+    bytes.truncate(rest);
+    bytes
+}
+
+/// The parts of a whole request whose head ends there. The body keeps the memory in which it came.
+pub(crate) fn request_of(
+    alloc: Global,
+    whole: Vec<u8>,
+    end: usize,
+) -> Result<RequestFrame, NoMemory>
+    requires framed { IsFramed requests whole.items end (length whole.items - end) }
+    requires within { end ≤ length whole.items }
+    ensures { IfOk result (IsRequest whole.items) }
+{
+    let bytes = whole.as_slice();
     let mut headers = [EMPTY_HEADER_SPAN; MAX_HEADERS];
     match parse_request(bytes, &mut headers) {
-        Ok(Status::Complete(head)) => Ok(RequestFrame {
-            method: Bytes::from_slice(alloc, head.method.of(bytes))?,
-            target: Bytes::from_slice(alloc, head.path.of(bytes))?,
-            minor: head.version,
-            fields: fields_of(alloc, bytes, &headers[..head.headers])?,
-            body: Bytes::from_slice(alloc, &bytes[end..])?,
-        }),
+        Ok(Status::Complete(head)) => {
+            let method = Bytes::from_slice(alloc, head.method.of(bytes))?;
+            let target = Bytes::from_slice(alloc, head.path.of(bytes))?;
+            let fields = fields_of(alloc, bytes, &headers[..head.headers])?;
+            Ok(RequestFrame {
+                method,
+                target,
+                minor: head.version,
+                fields,
+                body: Bytes::from_vec(without_front(whole, end)),
+            })
+        }
         Ok(Status::Partial) | Err(_) => unreachable!(),
     }
 }
 
 /// The same of a reply.
-pub(crate) fn reply_of(alloc: Global, bytes: &[u8], end: usize) -> Result<ReplyFrame, NoMemory>
-    requires framed { IsFramed replies bytes.now end (length bytes.now - end) }
-    requires within { end ≤ length bytes.now }
-    ensures { IfOk result (IsReply bytes.now) }
+pub(crate) fn reply_of(
+    alloc: Global,
+    whole: Vec<u8>,
+    end: usize,
+) -> Result<ReplyFrame, NoMemory>
+    requires framed { IsFramed replies whole.items end (length whole.items - end) }
+    requires within { end ≤ length whole.items }
+    ensures { IfOk result (IsReply whole.items) }
 {
+    let bytes = whole.as_slice();
     let mut headers = [EMPTY_HEADER_SPAN; MAX_HEADERS];
     match parse_response(bytes, &mut headers) {
-        Ok(Status::Complete(head)) => Ok(ReplyFrame {
-            status: head.code,
-            fields: fields_of(alloc, bytes, &headers[..head.headers])?,
-            body: Bytes::from_slice(alloc, &bytes[end..])?,
-        }),
+        Ok(Status::Complete(head)) => {
+            let fields = fields_of(alloc, bytes, &headers[..head.headers])?;
+            Ok(ReplyFrame {
+                status: head.code,
+                fields,
+                body: Bytes::from_vec(without_front(whole, end)),
+            })
+        }
         Ok(Status::Partial) | Err(_) => unreachable!(),
     }
 }

@@ -14,6 +14,7 @@ use crate::stream::{Phase, Taken, forget, take_piece};
 use gd_names::NoMemory;
 use std::alloc::Global;
 use std::marker::Model;
+use std::mem;
 
 /// Takes a stream of requests in pieces, and gives them one after another.
 #[derive(Debug, Drop)]
@@ -54,9 +55,9 @@ fn take_request(
             Ok(ReadStep::Need)
         }
         Ok(Taken::Whole(end, used)) => {
-            let frame = request_of(alloc, held.as_slice(), end);
+            let whole = mem::replace(held, Vec::new(alloc));
             forget(held, phase);
-            Ok(ReadStep::Done(frame?, used))
+            Ok(ReadStep::Done(request_of(alloc, whole, end)?, used))
         }
         Ok(Taken::Bad(cause)) => {
             forget(held, phase);
