@@ -98,11 +98,7 @@ pub(crate) fn request_of(
 }
 
 /// The same of a reply.
-pub(crate) fn reply_of(
-    alloc: Global,
-    whole: Vec<u8>,
-    end: usize,
-) -> Result<ReplyFrame, NoMemory>
+pub(crate) fn reply_of(alloc: Global, whole: Vec<u8>, end: usize) -> Result<ReplyFrame, NoMemory>
     requires framed { IsFramed replies whole.items end (length whole.items - end) }
     requires within { end ≤ length whole.items }
     ensures { IfOk result (IsReply whole.items) }

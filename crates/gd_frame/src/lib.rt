@@ -18,8 +18,7 @@ pub use framing::{MAX_BODY, number};
 pub use head::{MAX_HEAD, MAX_HEADERS};
 pub use laws::{
     bad_for_good, no_prefix, one_reading, one_reply, one_request, replies_cut_anywhere,
-    requests_cut_anywhere, whole_reply_done,
-    whole_request_done,
+    requests_cut_anywhere, whole_reply_done, whole_request_done,
 };
 pub use message::{Kind, MessageCause};
 pub use replies::ReplyFrames;

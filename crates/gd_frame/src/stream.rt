@@ -25,11 +25,7 @@ pub(crate) enum Taken {
 }
 
 /// Takes a piece while nothing is held: of a piece with many messages the first alone is copied.
-fn take_first(
-    kind: Kind,
-    held: &mut Vec<u8>,
-    piece: &[u8],
-) -> Result<Taken, NoMemory>
+fn take_first(kind: Kind, held: &mut Vec<u8>, piece: &[u8]) -> Result<Taken, NoMemory>
     requires { held.old.items ≡ [] }
     ensures { Takes (syntax_of kind) held.old.items piece.now result held.new.items }
 {

@@ -1,9 +1,11 @@
 use super::*;
 use std::test::Fail;
 
-const GET: &[u8] = b"GET /v1.0/me/drive/root/delta HTTP/1.1\r\nHost: 127.0.0.1:8080\r\nContent-Length: 0\r\n\r\n";
+const GET: &[u8] =
+    b"GET /v1.0/me/drive/root/delta HTTP/1.1\r\nHost: 127.0.0.1:8080\r\nContent-Length: 0\r\n\r\n";
 
-const NOT_FOUND: &[u8] = b"HTTP/1.1 404 Not Found\r\nContent-Type: application/json\r\nContent-Length: 58\r\n\r\n{\"error\":{\"code\":\"itemNotFound\",\"message\":\"itemNotFound\"}}";
+const NOT_FOUND: &[u8] =
+    b"HTTP/1.1 404 Not Found\r\nContent-Type: application/json\r\nContent-Length: 58\r\n\r\n{\"error\":{\"code\":\"itemNotFound\",\"message\":\"itemNotFound\"}}";
 
 fn cause_name(cause: MessageCause) -> &'static str {
     match cause {
@@ -36,7 +38,13 @@ fn reply(rt: &HostRuntime, bytes: &[u8]) -> Result<&'static str, Fail> {
 }
 
 /// The front, the part so many times, and the end.
-fn repeated(rt: &HostRuntime, front: &[u8], part: &[u8], count: usize, end: &[u8]) -> Result<Vec<u8>, Fail> {
+fn repeated(
+    rt: &HostRuntime,
+    front: &[u8],
+    part: &[u8],
+    count: usize,
+    end: &[u8],
+) -> Result<Vec<u8>, Fail> {
     let mut bytes = front.to_vec(rt.alloc())?;
     for _ in 0..count {
         bytes.extend_from_slice(part)?;
@@ -70,16 +78,40 @@ fn requests_are_told_apart(rt: HostRuntime) -> Result<(), Fail> {
         (b"GET /x HTTP/1.1\r\nContent-Length: 000\r\n\r\n", "done"),
         (b"PUT /x HTTP/1.1\r\ncontent-LENGTH: 02\r\n\r\nhi", "done"),
         (b"PUT /x HTTP/1.1\r\nContent-Length: 3\r\n\r\nhi", "need"),
-        (b"PUT /x HTTP/1.1\r\nContent-Length: 67108864\r\n\r\n", "need"),
-        (b"PUT /x HTTP/1.1\r\nContent-Length: 67108865\r\n\r\n", "Body"),
-        (b"PUT /x HTTP/1.1\r\nContent-Length: 18446744073709551615\r\n\r\n", "Body"),
-        (b"PUT /x HTTP/1.1\r\nContent-Length: 18446744073709551616\r\n\r\n", "Framing"),
-        (b"PUT /x HTTP/1.1\r\nContent-Length: +2\r\n\r\nhi", "Framing"),
-        (b"PUT /x HTTP/1.1\r\nContent-Length: 2, 2\r\n\r\nhi", "Framing"),
+        (
+            b"PUT /x HTTP/1.1\r\nContent-Length: 67108864\r\n\r\n",
+            "need",
+        ),
+        (
+            b"PUT /x HTTP/1.1\r\nContent-Length: 67108865\r\n\r\n",
+            "Body",
+        ),
+        (
+            b"PUT /x HTTP/1.1\r\nContent-Length: 18446744073709551615\r\n\r\n",
+            "Body",
+        ),
+        (
+            b"PUT /x HTTP/1.1\r\nContent-Length: 18446744073709551616\r\n\r\n",
+            "Framing",
+        ),
+        (
+            b"PUT /x HTTP/1.1\r\nContent-Length: +2\r\n\r\nhi",
+            "Framing",
+        ),
+        (
+            b"PUT /x HTTP/1.1\r\nContent-Length: 2, 2\r\n\r\nhi",
+            "Framing",
+        ),
         (b"PUT /x HTTP/1.1\r\nContent-Length:\r\n\r\n", "Framing"),
-        (b"PUT /x HTTP/1.1\r\nContent-Length: 1\r\nContent-Length: 1\r\n\r\nx", "Framing"),
+        (
+            b"PUT /x HTTP/1.1\r\nContent-Length: 1\r\nContent-Length: 1\r\n\r\nx",
+            "Framing",
+        ),
         (b"GET /x HTTP/1.1\r\nTransfer-Encoding: chunked\r\n", "need"),
-        (b"GET /x HTTP/1.1\r\nTransfer-Encoding: chunked\r\nContent-Length: 1\r\nContent-Length: x\r\n\r\n", "Coding"),
+        (
+            b"GET /x HTTP/1.1\r\nTransfer-Encoding: chunked\r\nContent-Length: 1\r\nContent-Length: x\r\n\r\n",
+            "Coding",
+        ),
         (b"GET /x HTTP/2\r\n", "Head"),
         (b"GET /\xff", "need"),
         (b"GET /\xff HTTP", "Head"),
@@ -99,7 +131,13 @@ fn limits_wait_for_the_head(rt: HostRuntime) -> Result<(), Fail> {
         (line, b"x: y\r\n", 64, b"\r\n", "done"),
         (line, b"x: y\r\n", 65, b"", "need"),
         (line, b"x: y\r\n", 65, b"\r\n", "Head"),
-        (b"GET /x HTTP/1.1\r\nTransfer-Encoding: chunked\r\n", b"x: y\r\n", 64, b"\r\n", "Head"),
+        (
+            b"GET /x HTTP/1.1\r\nTransfer-Encoding: chunked\r\n",
+            b"x: y\r\n",
+            64,
+            b"\r\n",
+            "Head",
+        ),
         (b"GET /x HTTP/1.1\n", b"a:\n", 65, b"\0", "Head"),
         (coding, b"y", 65480, b"", "need"),
         (coding, b"y", 65494, b"", "Head"),
@@ -113,7 +151,13 @@ fn limits_wait_for_the_head(rt: HostRuntime) -> Result<(), Fail> {
 
 #[test]
 fn a_bad_message_is_told_where_it_begins(rt: HostRuntime) -> Result<(), Fail> {
-    let bytes = repeated(&rt, GET, b"GET /x HTTP/1.1\r\nTransfer-Encoding: chunked\r\n\r\n", 1, b"")?;
+    let bytes = repeated(
+        &rt,
+        GET,
+        b"GET /x HTTP/1.1\r\nTransfer-Encoding: chunked\r\n\r\n",
+        1,
+        b"",
+    )?;
     let mut frames = RequestFrames::new(rt.alloc());
     let used = match frames.feed(bytes.as_slice())? {
         ReadStep::Done(_, used) => used,
@@ -134,7 +178,10 @@ fn a_bad_message_is_told_where_it_begins(rt: HostRuntime) -> Result<(), Fail> {
 fn a_body_comes_in_pieces(rt: HostRuntime) -> Result<(), Fail> {
     let mut frames = RequestFrames::new(rt.alloc());
     assert_eq!(rt; frames.held(), 0);
-    assert_eq!(rt; step_name(&frames.feed(b"PUT /x HTTP/1.0\r\nA:  b \r\nContent-Length: 5\r\n\r\nh")?), "need");
+    assert_eq!(rt;
+        step_name(&frames.feed(b"PUT /x HTTP/1.0\r\nA:  b \r\nContent-Length: 5\r\n\r\nh")?),
+        "need"
+    );
     assert_eq!(rt; step_name(&frames.feed(b"el")?), "need");
     assert_eq!(rt; frames.held(), 49);
     match frames.feed(b"loGET")? {

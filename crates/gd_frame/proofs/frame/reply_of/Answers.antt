@@ -10,8 +10,7 @@ returns c =
     let f = c.requires.framed in
     let bytes = c.args.whole.items in
     let body = drop c.args.end bytes in
-    let same = response_unique bytes found.0 f.head (drop c.in-Ok-Complete.head.len bytes) body at.reads f.begins.reads in
-    (
+    let same = response_unique bytes found.0 f.head (drop c.in-Ok-Complete.head.len bytes) body at.reads f.begins.reads in (
       record { head = f.head; body = body; begins = f.begins; framed = f.framed ∙ ap Ok (sym (length-drop c.args.end bytes)) },
       rw (c.in_ok-fields-in-Ok-Complete.ensures, c.from_vec.ensures, c.without_front.ensures, c.as_slice-bytes.ensures.value, at.code, at.fields) (ap (λ h. reply_frame h body) same.0),
     )
