@@ -42,16 +42,16 @@ module _ {F : Type 0} (s : Syntax) (p : Plain s) (Is : List ℕ → F → Type 0
   parted held piece used = ap (λ (t : List ℕ). held ++ t) (sym (take-append-drop used piece)) ∙ sym (append_assoc held (take used piece) (drop used piece))
 
   pub cut_anywhere : (place : ℕ) (held a b middle new once : List ℕ) (x y : Result (ReadStep F) NoMemory) → Fed s Is place held a (Ok Need) middle
-      → Fed s Is place middle b x new → Fed s Is place held (a ++ b) y once → SameStep (length a) x y ⊎ s.Waits (held ++ (a ++ b))
-  cut_anywhere place held a b middle new once (Err e) y first u v = inl tt
-  cut_anywhere place held a b middle new once (Ok x) (Err e) first u v = inl tt
-  cut_anywhere place held a b middle new once (Ok Need) (Ok Need) first u v = inl tt
+      → Fed s Is place middle b x new → Fed s Is place held (a ++ b) y once → SameStep (length a) x y
+  cut_anywhere place held a b middle new once (Err e) y first u v = tt
+  cut_anywhere place held a b middle new once (Ok x) (Err e) first u v = tt
+  cut_anywhere place held a b middle new once (Ok Need) (Ok Need) first u v = tt
   cut_anywhere place held a b middle new once (Ok Need) (Ok (Done g total)) first u v =
       let all : middle ++ b ≡ held ++ (a ++ b) = ap (λ (t : List ℕ). t ++ b) first.2 ∙ append_assoc held a b in
       absurd (u.0 (held ++ take total (a ++ b)) (drop total (a ++ b)) (all ∙ parted held (a ++ b) total) (is (held ++ take total (a ++ b)) g v.1))
   cut_anywhere place held a b middle new once (Ok Need) (Ok (Bad at cause)) first u v =
       let all : middle ++ b ≡ held ++ (a ++ b) = ap (λ (t : List ℕ). t ++ b) first.2 ∙ append_assoc held a b in
-      inr (waits_only s p (held ++ (a ++ b)) cause (subst (Awaits s) all u.1) v.1)
+      absurd (waits_only s p (held ++ (a ++ b)) cause (subst (Awaits s) all u.1) v.1)
   cut_anywhere place held a b middle new once (Ok (Done f used)) (Ok Need) first u v =
       let all : middle ++ b ≡ held ++ (a ++ b) = ap (λ (t : List ℕ). t ++ b) first.2 ∙ append_assoc held a b in
       absurd (v.0 (middle ++ take used b) (drop used b) (sym all ∙ parted middle b used) (is (middle ++ take used b) f u.1))
@@ -59,16 +59,16 @@ module _ {F : Type 0} (s : Syntax) (p : Plain s) (Is : List ℕ → F → Type 0
       let all : middle ++ b ≡ held ++ (a ++ b) = ap (λ (t : List ℕ). t ++ b) first.2 ∙ append_assoc held a b in
       let same = same_message s p (middle ++ take used b) (held ++ take total (a ++ b)) (drop used b) (drop total (a ++ b)) (is (middle ++ take used b) f u.1) (is (held ++ take total (a ++ b)) g v.1) (sym (parted middle b used) ∙ all ∙ parted held (a ++ b) total) in
       let count : total ≡ length a + used = omega (arith, ap length same.0, length-append middle (take used b), length-append held (take total (a ++ b)), length-take-le used b u.0, length-take-le total (a ++ b) v.0, ap length first.2, length-append held a) in
-      inl (one (held ++ take total (a ++ b)) f g (subst (λ t. Is t f) same.0 u.1) v.1, count)
+      (one (held ++ take total (a ++ b)) f g (subst (λ t. Is t f) same.0 u.1) v.1, count)
   cut_anywhere place held a b middle new once (Ok (Done f used)) (Ok (Bad at cause)) first u v =
       let all : middle ++ b ≡ held ++ (a ++ b) = ap (λ (t : List ℕ). t ++ b) first.2 ∙ append_assoc held a b in
       absurd (cause_never s p cause (held ++ (a ++ b)) v.1 [] (middle ++ take used b) (drop used b) (append-nil (held ++ (a ++ b)) ∙ sym all ∙ parted middle b used) (is (middle ++ take used b) f u.1))
   cut_anywhere place held a b middle new once (Ok (Bad at cause)) (Ok Need) first u v =
       let all : middle ++ b ≡ held ++ (a ++ b) = ap (λ (t : List ℕ). t ++ b) first.2 ∙ append_assoc held a b in
-      inr (waits_only s p (held ++ (a ++ b)) cause v.1 (subst (HasCause s cause) all u.1))
+      absurd (waits_only s p (held ++ (a ++ b)) cause v.1 (subst (HasCause s cause) all u.1))
   cut_anywhere place held a b middle new once (Ok (Bad at cause)) (Ok (Done g total)) first u v =
       let all : middle ++ b ≡ held ++ (a ++ b) = ap (λ (t : List ℕ). t ++ b) first.2 ∙ append_assoc held a b in
       absurd (cause_never s p cause (middle ++ b) u.1 [] (held ++ take total (a ++ b)) (drop total (a ++ b)) (append-nil (middle ++ b) ∙ all ∙ parted held (a ++ b) total) (is (held ++ take total (a ++ b)) g v.1))
   cut_anywhere place held a b middle new once (Ok (Bad at cause)) (Ok (Bad place' other)) first u v =
       let all : middle ++ b ≡ held ++ (a ++ b) = ap (λ (t : List ℕ). t ++ b) first.2 ∙ append_assoc held a b in
-      inl (u.0 ∙ sym v.0, one_cause s p (held ++ (a ++ b)) cause other (subst (HasCause s cause) all u.1) v.1)
+      (u.0 ∙ sym v.0, one_cause s p (held ++ (a ++ b)) cause other (subst (HasCause s cause) all u.1) v.1)

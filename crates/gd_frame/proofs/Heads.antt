@@ -85,7 +85,7 @@ never_big s p bytes tail h reads big = record {
 
 -- heads of more fields than are allowed
 pub never_many : (s : Syntax) (bytes : List ℕ) → ((more : List ℕ) (h : s.Head) (rest : List ℕ) → Reads s (bytes ++ more) h rest → 64 < length (s.fields h))
-    → ((more : List ℕ) → HasNoHead s (bytes ++ more)) ⊎ ((h : s.Head) × (rest : List ℕ) × Reads s bytes h rest) ⊎ (65536 ≤ length bytes) → HasNoFittingHead s bytes
+    → (((more : List ℕ) → HasNoHead s (bytes ++ more)) × ¬ (s.Waits bytes)) ⊎ ((h : s.Head) × (rest : List ℕ) × Reads s bytes h rest) ⊎ (65536 ≤ length bytes) → HasNoFittingHead s bytes
 never_many s bytes many known = record { never = λ more h rest b. omega (arith, many more h rest b.reads, b.few); known = known }
 
 unframed_never : (s : Syntax) → Plain s → (cause : MessageCause) (bytes : List ℕ) → IsUnframed s cause bytes → NeverHasMessage s bytes
@@ -225,17 +225,24 @@ one_cause s p bytes a b x y =
       ]
     ]
 
-open_head : (s : Syntax) (bytes : List ℕ) → HasOpenHead s bytes → MayBecomeHead s bytes → ((more : List ℕ) → HasNoHead s (bytes ++ more)) ⊎ ((h : s.Head) × (rest : List ℕ) × Reads s bytes h rest) ⊎ (65536 ≤ length bytes) → s.Waits bytes
-open_head s bytes o (inl m) (inl never) = absurd (never m.0 m.1 [] m.2)
-open_head s bytes o (inr waits) (inl never) = waits
-open_head s bytes o may (inr (inl h)) = absurd (o.none h.0 h.1 h.2)
-open_head s bytes o may (inr (inr long)) = absurd (omega (arith, long, o.short))
+open_head : (s : Syntax) (bytes : List ℕ) → HasOpenHead s bytes → MayBecomeHead s bytes → (((more : List ℕ) → HasNoHead s (bytes ++ more)) × ¬ (s.Waits bytes)) ⊎ ((h : s.Head) × (rest : List ℕ) × Reads s bytes h rest) ⊎ (65536 ≤ length bytes) → ⊥
+open_head s bytes o (inl m) (inl never) = never.0 m.0 m.1 [] m.2
+open_head s bytes o (inr waits) (inl never) = never.1 waits
+open_head s bytes o may (inr (inl h)) = o.none h.0 h.1 h.2
+open_head s bytes o may (inr (inr long)) = omega (arith, long, o.short)
 
--- bytes that wait for more have no cause, but inside a target
-pub waits_only : (s : Syntax) → Plain s → (bytes : List ℕ) (cause : MessageCause) → Awaits s bytes → HasCause s cause bytes → s.Waits bytes
-waits_only s p bytes cause (inr m) c = absurd (cause_never s p cause bytes c m.0 (bytes ++ m.0) [] (sym (append-nil (bytes ++ m.0))) m.1)
+-- bytes that wait for more have no cause
+pub waits_only : (s : Syntax) → Plain s → (bytes : List ℕ) (cause : MessageCause) → Awaits s bytes → HasCause s cause bytes → ⊥
+waits_only s p bytes cause (inr m) c = (cause_never s p cause bytes c m.0 (bytes ++ m.0) [] (sym (append-nil (bytes ++ m.0))) m.1)
 waits_only s p bytes cause (inl o) c =
     elim (cause_parts s cause bytes c) [
       | inl f ↦ open_head s bytes o o.may f.0.known
-      | inr u ↦ absurd (o.none u.head u.rest u.begins.reads)
+      | inr u ↦ o.none u.head u.rest u.begins.reads
     ]
+
+-- bytes that no head begins, whatever follows
+pub never_here : (s : Syntax) (bytes : List ℕ) → ((more : List ℕ) → HasNoHead s (bytes ++ more)) → HasNoHead s bytes
+never_here s bytes never = subst (HasNoHead s) (append-nil bytes) (never [])
+
+pub never_any : (s : Syntax) (bytes : List ℕ) → ((more : List ℕ) → HasNoHead s (bytes ++ more)) → ¬ (s.Waits bytes) → HasNoFittingHead s bytes
+never_any s bytes never ends = record { never = λ more h rest b. never more h rest b.reads; known = inl (never, ends) }

@@ -3,3 +3,4 @@ pub mod Heads
 pub mod Rooms
 pub mod Streams
 pub mod Feeds
+pub mod Targets

@@ -1,10 +1,8 @@
 -- A head has three bytes for each of its fields at least, so few bytes have few fields.
-use Rattle.std.proofs.Common.{◌≡◌, ◌≢◌, ℕ, ◌*◌, ◌<◌, ◌≤◌, List, [], ◌∷◌, length, refl, ap, arith, length-append, lit≤, lit<, All}
+use Rattle.std.proofs.Common.{ℕ, ◌*◌, ◌<◌, ◌≤◌, List, [], ◌∷◌, length, ap, arith, length-append, lit≤, lit<, All}
 use Rattle.std.specs.List.{flat_map}
 use Rattle.std.proofs.lemmas.List.Concat.{flat_map-cons}
 use Rattle.std.proofs.lemmas.List.Elements.{All-head, All-tail}
-use Rattle.httparse.specs.declared.Error.{Error}
-use Rattle.httparse.specs.declared.Error.TheVariants.{HeaderName, HeaderValue, NewLine, Status, Token, TooManyHeaders, Version}
 use Rattle.httparse.specs.Grammar.{Field, IsField, LineEnd, crlf, lf, print_end, print_field, RequestHead, IsRequestHead, print_request, ResponseHead, IsResponseHead, print_response}
 use Rattle.httparse.specs.Spans.{RequestExceeds, ResponseExceeds}
 
@@ -35,13 +33,3 @@ room_for_request bytes short (front, rest, is, h, reads, many) =
 pub room_for_reply : (bytes : List ℕ) → length bytes < 65536 → ResponseExceeds 21846 bytes → ⊥
 room_for_reply bytes short (front, rest, is, h, reads, many) =
     omega (arith, ap length is, length-append front rest, ap length reads.1, length-append front (print_end lf), length-append (print_response h) [], reply_long h reads.0, many)
-
--- an error is want of room or another
-pub by_error : {A : Type 0} → (e : Error) → (e ≢ TooManyHeaders → A) → (e ≡ TooManyHeaders → A) → A
-by_error HeaderName other many = other (λ is. cc)
-by_error HeaderValue other many = other (λ is. cc)
-by_error NewLine other many = other (λ is. cc)
-by_error Status other many = other (λ is. cc)
-by_error Token other many = other (λ is. cc)
-by_error TooManyHeaders other many = many refl
-by_error Version other many = other (λ is. cc)

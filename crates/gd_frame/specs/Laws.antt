@@ -46,8 +46,7 @@ SameStep n (Ok (Bad at cause)) (Ok Need) = ⊥
 SameStep n (Ok (Bad at cause)) (Ok (Done g total)) = ⊥
 SameStep n (Ok (Bad at cause)) (Ok (Bad place other)) = (at ≡ place) × (cause ≡ other)
 
--- Feeding a, which leaves the message open, and then b gives what feeding both at once gives; but where they end inside
--- a request's target, which is not read before its end, a bad target may be told at once.
+-- feeding a, which leaves the message open, and then b gives what feeding both at once gives
 abbrev pub CutAnywhere : {F : Type 0} → Syntax → (List ℕ → F → Type 0) → Type 0
 CutAnywhere {F} s Is = (place : ℕ) (held a b middle new once : List ℕ) (x y : Result (ReadStep F) NoMemory) → Fed s Is place held a (Ok Need) middle
-    → Fed s Is place middle b x new → Fed s Is place held (a ++ b) y once → SameStep (length a) x y ⊎ s.Waits (held ++ (a ++ b))
+    → Fed s Is place middle b x new → Fed s Is place held (a ++ b) y once → SameStep (length a) x y

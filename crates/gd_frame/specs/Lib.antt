@@ -8,3 +8,4 @@ pub mod Splitting
 pub mod Ends
 pub mod Scanning
 pub mod Laws
+pub mod Targets

@@ -30,10 +30,10 @@ abbrev pub NeverBegins : Syntax → List ℕ → Type 0
 NeverBegins s bytes = (more : List ℕ) (h : s.Head) (rest : List ℕ) → ¬ (BeginsWith s (bytes ++ more) h rest)
 
 -- The first cause: no continuation begins with a head within the limits, and this is known, since no continuation
--- begins with any head, or a head is whole, or 65,536 bytes are there.
+-- begins with any head (which waits for the end of a request's target), or a head is whole, or 65,536 bytes are there.
 pub record HasNoFittingHead (s : Syntax) (bytes : List ℕ) : Type 0 where
   pub never : NeverBegins s bytes
-  pub known : ((more : List ℕ) → HasNoHead s (bytes ++ more)) ⊎ ((h : s.Head) × (rest : List ℕ) × Reads s bytes h rest) ⊎ (65536 ≤ length bytes)
+  pub known : (((more : List ℕ) → HasNoHead s (bytes ++ more)) × ¬ (s.Waits bytes)) ⊎ ((h : s.Head) × (rest : List ℕ) × Reads s bytes h rest) ⊎ (65536 ≤ length bytes)
 
 -- a head within the limits is there, and its fields announce no body for this cause
 pub record IsUnframed (s : Syntax) (cause : MessageCause) (bytes : List ℕ) : Type 0 where

@@ -1,4 +1,5 @@
 ghost use Rattle.std.specs.Prelude.{◌≡◌, ◌≤◌, ◌<◌, ℕ, All, Ok, map, length, take, IfOk, Result};
+ghost use Rattle.httparse.specs.Grammar.{NeverHasRequest};
 ghost use Rattle.httparse.specs.Spans.{IsHeaderWithin, header_bytes, RequestOverflows, ResponseOverflows};
 ghost use Rattle.gd_frame.specs.Framing.{reply_without_length, IsAnnounced};
 ghost use Rattle.gd_frame.specs.Syntax.{requests, replies, syntax_of, HasNoHead, MayBecomeHead};
@@ -6,6 +7,7 @@ ghost use Rattle.gd_frame.specs.Scanning.{HasHead, Scans};
 
 use crate::framing::framing;
 use crate::message::{Kind, MessageCause};
+use crate::target::ends_in_target;
 use httparse::spans::{EMPTY_HEADER_SPAN, HeaderSpan, parse_request, parse_response};
 use httparse::{Error, Status};
 
@@ -65,18 +67,33 @@ fn open(kind: Kind, bytes: &[u8]) -> HeadScan
     }
 }
 
+/// No head, whatever follows; of a target this is told behind its end.
+fn never_request(bytes: &[u8]) -> HeadScan
+    requires { NeverHasRequest bytes.now }
+    ensures { Scans requests bytes.now result }
+{
+    if ends_in_target(bytes) {
+        open(Kind::Request, bytes)
+    } else {
+        HeadScan::Bad(MessageCause::Head)
+    }
+}
+
 /// A head of more headers than are allowed: it is refused once it is whole.
 #[cold]
 fn many_in_request(bytes: &[u8]) -> HeadScan
-    requires many { RequestOverflows 64 bytes.now }
-    requires short { length bytes.now < 65536 }
+    requires { RequestOverflows 64 bytes.now }
     ensures { Scans requests bytes.now result }
 {
+    if bytes.len() >= MAX_HEAD {
+        return HeadScan::Bad(MessageCause::Head);
+    }
     let mut headers = [EMPTY_HEADER_SPAN; ROOM];
     match parse_request(bytes, &mut headers) {
         Ok(Status::Partial) => HeadScan::Open,
         Ok(Status::Complete(_)) => HeadScan::Bad(MessageCause::Head),
-        Err(_) => HeadScan::Bad(MessageCause::Head),
+        Err(Error::TooManyHeaders) => unreachable!(),
+        Err(_) => never_request(bytes),
     }
 }
 
@@ -93,22 +110,25 @@ fn scan_request(bytes: &[u8]) -> HeadScan
             &headers[..head.headers],
         ),
         Ok(Status::Partial) => open(Kind::Request, bytes),
-        Err(Error::TooManyHeaders) if bytes.len() < MAX_HEAD => many_in_request(bytes),
-        Err(_) => HeadScan::Bad(MessageCause::Head),
+        Err(Error::TooManyHeaders) => many_in_request(bytes),
+        Err(_) => never_request(bytes),
     }
 }
 
 /// The same of a reply.
 #[cold]
 fn many_in_reply(bytes: &[u8]) -> HeadScan
-    requires many { ResponseOverflows 64 bytes.now }
-    requires short { length bytes.now < 65536 }
+    requires { ResponseOverflows 64 bytes.now }
     ensures { Scans replies bytes.now result }
 {
+    if bytes.len() >= MAX_HEAD {
+        return HeadScan::Bad(MessageCause::Head);
+    }
     let mut headers = [EMPTY_HEADER_SPAN; ROOM];
     match parse_response(bytes, &mut headers) {
         Ok(Status::Partial) => HeadScan::Open,
         Ok(Status::Complete(_)) => HeadScan::Bad(MessageCause::Head),
+        Err(Error::TooManyHeaders) => unreachable!(),
         Err(_) => HeadScan::Bad(MessageCause::Head),
     }
 }
@@ -138,7 +158,7 @@ fn scan_reply(bytes: &[u8]) -> HeadScan
             &headers[..head.headers],
         ),
         Ok(Status::Partial) => open(Kind::Reply, bytes),
-        Err(Error::TooManyHeaders) if bytes.len() < MAX_HEAD => many_in_reply(bytes),
+        Err(Error::TooManyHeaders) => many_in_reply(bytes),
         Err(_) => HeadScan::Bad(MessageCause::Head),
     }
 }

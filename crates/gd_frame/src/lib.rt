@@ -11,6 +11,7 @@ mod replies;
 mod requests;
 mod step;
 mod stream;
+mod target;
 
 pub use end::{ReplyEnd, reply_end};
 pub use frame::{Field, ReplyFrame, RequestFrame};

@@ -1,4 +1,4 @@
-use Rattle.std.proofs.Common.{◌≡◌, List, Ok, length, drop, sym, ap, ◌∙◌, length-drop}
+use Rattle.std.proofs.Common.{Ok, drop, sym, ap, ◌∙◌, length-drop}
 use Rattle.httparse.proofs.GrammarLemmas.{response_unique}
 use Rattle.gd_frame.specs.Frames.{reply_frame}
 use Rattle.gd_frame.proofs.frame.reply_of.Goals as goal

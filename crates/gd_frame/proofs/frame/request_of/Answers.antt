@@ -1,4 +1,4 @@
-use Rattle.std.proofs.Common.{◌≡◌, List, Ok, length, drop, sym, ap, ◌∙◌, length-drop}
+use Rattle.std.proofs.Common.{Ok, drop, sym, ap, ◌∙◌, length-drop}
 use Rattle.httparse.proofs.GrammarLemmas.{request_unique}
 use Rattle.gd_frame.specs.Frames.{request_frame}
 use Rattle.gd_frame.proofs.frame.request_of.Goals as goal
