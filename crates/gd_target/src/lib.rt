@@ -1,0 +1,14 @@
+//! The targets of requests: what they name, and the members of their queries.
+#![tactic(auto)]
+
+mod cuts;
+mod fault;
+mod number;
+mod query;
+mod resource;
+
+pub use cuts::{cut, past};
+pub use fault::RequestFault;
+pub use number::number_of;
+pub use query::{QueryMember, query_of, query_value};
+pub use resource::{Resource, named_by};
