@@ -10,5 +10,5 @@ mod resource;
 pub use cuts::{cut, past};
 pub use fault::RequestFault;
 pub use number::number_of;
-pub use query::{QueryMember, query_of, query_value};
+pub use query::{QueryMember, one_more, query_of, query_value};
 pub use resource::{Resource, named_by};

@@ -45,7 +45,7 @@ pub fn query_of(target: &[u8]) -> Option<&[u8]>
 }
 
 /// One value more, of which there may be one in all.
-fn one_more<'t>(found: Option<&'t [u8]>, value: Option<&'t [u8]>) -> Result<Option<&'t [u8]>, RequestFault>
+pub fn one_more<'t>(found: Option<&'t [u8]>, value: Option<&'t [u8]>) -> Result<Option<&'t [u8]>, RequestFault>
     ensures ok { IfOk result (λ o. (others : List (List ℕ)) → once (cons_option (shown found.entry) (cons_option (shown value.entry) others)) ≡ once (cons_option (shown o) others)) }
     ensures err { IfErr result (λ e. (e ≡ RequestFault.Invalid) × ((others : List (List ℕ)) → once (cons_option (shown found.entry) (cons_option (shown value.entry) others)) ≡ Err RequestFault.Invalid)) }
 {
