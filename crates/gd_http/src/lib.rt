@@ -1,13 +1,15 @@
-// A library with one function.
+//! Requests and replies of a drive as messages of HTTP/1.1 (RFC 9110, RFC 9112), both ways.
 #![tactic(auto)]
 
-ghost use Rattle.std.specs.Prelude.{◌≡◌};
-ghost use Rattle.gd_http.specs.Echo.{echo_of};
+mod body;
+mod header;
+mod incoming;
+mod method;
+mod range;
+mod request;
+mod word;
 
-// The `ensures` clause is the contract: what `echo` returns is `echo_of` of its argument, a definition
-// in `specs/Echo.antt`, which a caller's clause can cite too.
-pub fn echo(x: usize) -> usize
-    ensures { result ≡ echo_of x }
-{
-    x
-}
+pub use gd_frame::MessageCause;
+pub use incoming::Incoming;
+pub use range::Range;
+pub use request::incoming_from;

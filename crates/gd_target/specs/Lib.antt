@@ -2,3 +2,4 @@ pub mod Cuts
 pub mod Faults
 pub mod Queries
 pub mod Resources
+pub mod Targets

@@ -6,9 +6,11 @@ mod fault;
 mod number;
 mod query;
 mod resource;
+mod written;
 
 pub use cuts::{cut, past};
 pub use fault::RequestFault;
 pub use number::number_of;
 pub use query::{QueryMember, one_more, query_of, query_value};
 pub use resource::{Resource, named_by};
+pub use written::{put_both, put_delta, put_download, put_target};
