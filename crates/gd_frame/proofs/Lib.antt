@@ -1,0 +1,5 @@
+pub mod Fields
+pub mod Heads
+pub mod Rooms
+pub mod Streams
+pub mod Feeds
