@@ -6,10 +6,12 @@ mod header;
 mod incoming;
 mod method;
 mod range;
+mod reader;
 mod request;
 mod word;
 
-pub use gd_frame::MessageCause;
+pub use gd_frame::{MAX_BODY, MAX_HEAD, MAX_HEADERS, MessageCause, ReadStep, ReplyEnd, reply_end};
 pub use incoming::Incoming;
 pub use range::Range;
+pub use reader::RequestReader;
 pub use request::incoming_from;
