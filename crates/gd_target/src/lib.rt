@@ -12,5 +12,5 @@ pub use cuts::{cut, past};
 pub use fault::RequestFault;
 pub use number::number_of;
 pub use query::{QueryMember, one_more, query_of, query_value};
-pub use resource::{Resource, named_by};
+pub use resource::{Resource, download_of, named_by};
 pub use written::{put_both, put_delta, put_download, put_target};

@@ -232,8 +232,9 @@ fn of_version(id: ItemId, rest: &[u8]) -> Result<Resource, RequestFault>
     }
 }
 
+/// The version that the text behind the front of its link names.
 #[tactic(auto, unfolding(crate::specs::Resources::download_of))]
-fn download_of(text: &[u8]) -> Result<Resource, RequestFault>
+pub fn download_of(text: &[u8]) -> Result<Resource, RequestFault>
     ensures { Gives (λ x. x) result (ok_or NotFound (download_of text.now)) }
 {
     let (id, rest) = id_and_rest(text)?;
