@@ -34,8 +34,12 @@ method_text (request.CancelSession session) = codes "DELETE"
 method_text (request.Finish session) = codes "POST"
 method_text (request.Delta token) = codes "GET"
 
+-- the end of a request's line
+unfoldable pub version_end : List ℕ
+version_end = codes " HTTP/1.1\r\n"
+
 unfoldable pub line_text : Request → List ℕ
-line_text r = (method_text r ++ codes " ") ++ (target_text r ++ codes " HTTP/1.1\r\n")
+line_text r = (method_text r ++ codes " ") ++ (target_text r ++ version_end)
 
 -- the base without its `http://`
 unfoldable pub host_text : List ℕ → List ℕ

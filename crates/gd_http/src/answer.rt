@@ -148,7 +148,8 @@ pub fn is_feed(alloc: Global, wire: &Wire, link: &[u8]) -> Result<bool, ReplyFau
     }
 }
 
-fn feed_link(alloc: Global, wire: &Wire) -> Result<Bytes, NoMemory>
+/// The link of the feed from its beginning.
+pub fn feed_link(alloc: Global, wire: &Wire) -> Result<Bytes, NoMemory>
     ensures { IfOk result (λ b. b ≡ wire.now.base ++ delta_text None) }
 {
     let mut feed = Bytes::from_slice(alloc, wire.base.as_bytes())?;

@@ -1,7 +1,7 @@
 //! Writing requests.
 ghost use Rattle.std.specs.Prelude.{◌≡◌, ◌++◌, length, IfOk, OnOk, option_map, string_bytes};
 ghost use Rattle.std.specs.Fmt.{decimal};
-ghost use Rattle.gd_http.specs.Written.{field_text, method_text, line_text, host_text, condition_text, condition_header, range_value, range_header, json_of, bytes_of, or_bytes, type_text, length_text, body_text, first_part, last_part, written_request};
+ghost use Rattle.gd_http.specs.Written.{field_text, method_text, version_end, line_text, host_text, condition_text, condition_header, range_value, range_header, json_of, bytes_of, or_bytes, type_text, length_text, body_text, first_part, last_part, written_request};
 ghost use Rattle.gd_target.specs.Targets.{target_text};
 
 use gd_item::{Condition, Request};
@@ -39,13 +39,20 @@ fn method_text(request: &Request) -> &'static [u8]
     }
 }
 
+#[tactic(auto, unfolding(crate::specs::Written::version_end))]
+fn put_version_end(out: &mut Bytes) -> Result<(), NoMemory>
+    ensures { OnOk result (out.new ≡ out.old ++ version_end) }
+{
+    out.push_slice(b" HTTP/1.1\r\n")
+}
+
 #[tactic(auto, unfolding(crate::specs::Written::line_text))]
 fn put_line(alloc: Global, out: &mut Bytes, request: &Request) -> Result<(), NoMemory>
     ensures { OnOk result (out.new ≡ out.old ++ line_text request.now) }
 {
     put_both(out, method_text(request), b" ")?;
     put_target(alloc, out, request)?;
-    out.push_slice(b" HTTP/1.1\r\n")?;
+    put_version_end(out)?;
     Ok(())
 }
 
@@ -152,7 +159,7 @@ fn bytes_of(request: &Request) -> &[u8]
 }
 
 #[tactic(auto, unfolding(crate::specs::Written::type_text))]
-fn put_type(out: &mut Bytes, json: &Option<Bytes>) -> Result<(), NoMemory>
+pub fn put_type(out: &mut Bytes, json: &Option<Bytes>) -> Result<(), NoMemory>
     ensures { OnOk result (out.new ≡ out.old ++ type_text json.now) }
 {
     match json {
@@ -196,7 +203,7 @@ fn put_last(alloc: Global, out: &mut Bytes, json: &Option<Bytes>, body: &[u8]) -
     Ok(())
 }
 
-fn or_bytes<'b>(json: &'b Option<Bytes>, bytes: &'b [u8]) -> &'b [u8]
+pub fn or_bytes<'b>(json: &'b Option<Bytes>, bytes: &'b [u8]) -> &'b [u8]
     ensures { result.now ≡ or_bytes json.now bytes.entry.now }
 {
     match json {
