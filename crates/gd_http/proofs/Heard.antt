@@ -1,11 +1,10 @@
 -- What a reader of frames gives, heard as messages.
-use Rattle.std.proofs.Common.{◌≡◌, ℕ, ◌+◌, ◌-◌, ◌^◌, min, List, Some, None, Ok, Err, refl, length, absurd}
+use Rattle.std.proofs.Common.{◌≡◌, ℕ, ◌+◌, ◌-◌, ◌^◌, min, List, Some, None, Ok, refl, length}
 use Rattle.gd_frame.specs.declared.frame.RequestFrame.{RequestFrame}
-use Rattle.gd_names.specs.declared.memory.NoMemory.{NoMemory}
+use Rattle.gd_frame.specs.declared.step.ReadState.TheVariants as state
 use Rattle.gd_item.specs.declared.reply.Reply.{Reply}
 use Rattle.gd_frame.specs.declared.frame.ReplyFrame.{ReplyFrame}
-use Rattle.gd_frame.specs.declared.message.MessageCause.{MessageCause}
-use Rattle.gd_frame.specs.declared.message.MessageCause.TheVariants.{Head, Coding, Framing, Body, Meaning}
+use Rattle.gd_frame.specs.declared.message.MessageCause.TheVariants.{Meaning}
 use Rattle.gd_frame.specs.declared.step.ReadStep.TheVariants.{Need, Done, Bad}
 use Rattle.gd_frame.specs.Frames.{IsRequest, IsReply}
 use Rattle.gd_frame.specs.Feeding.{Feeds}
@@ -13,7 +12,7 @@ use Rattle.gd_frame.specs.Reading.{Reading}
 use Rattle.gd_frame.specs.Syntax.{requests, replies}
 use Rattle.gd_http.specs.declared.incoming.Incoming.{Incoming}
 use Rattle.gd_http.specs.Hearing.{incoming_of_frame, RequestBytes, Hears}
-use Rattle.gd_http.specs.HearingReplies.{Listening, reply_of_frame, HasReplyCause, HearsReply}
+use Rattle.gd_http.specs.HearingReplies.{Listening, reply_of_frame, HearsReply}
 
 pub need_heard : (old new : Reading) (piece : List ℕ) → Feeds requests IsRequest old piece (Ok Need) new → Hears RequestBytes old piece (Ok Need) new
 need_heard old new piece fed = record { bytes = fed.bytes; state = fed.state; place = fed.place }
@@ -32,4 +31,10 @@ pub done_told : (l : Listening) (frames new : Reading) (piece : List ℕ) (frame
     → reply_of_frame l frame ≡ Some reply → place ≡ min (l.reading.place + (length l.reading.held + used)) (2 ^ 64 - 1) → Feeds replies IsReply frames piece (Ok (Done frame used)) new
     → HearsReply l piece (Ok (Done reply used)) (record { held = new.held; place = place; state = new.state })
 done_told l frames new piece frame reply used place same is at fed =
-    record { bytes = rw same (fed.bytes.0, (frame, fed.bytes.1, is), fed.bytes.2); state = fed.state; place = at }
+    record { bytes = (fed.bytes.0, rw same (frame, fed.bytes.1, is), fed.bytes.2); state = fed.state; place = at }
+
+pub meaning_told : (l : Listening) (frames new : Reading) (piece : List ℕ) (frame : ReplyFrame) (used : ℕ) → l.reading.held ≡ frames.held
+    → reply_of_frame l frame ≡ None → Feeds replies IsReply frames piece (Ok (Done frame used)) new
+    → HearsReply l piece (Ok (Bad l.reading.place Meaning)) (record { held = new.held; place = l.reading.place; state = state.Bad Meaning })
+meaning_told l frames new piece frame used same is fed =
+    record { bytes = (refl, (used, fed.bytes.0, rw same (frame, fed.bytes.1, is)), fed.bytes.2); state = refl; place = refl }
