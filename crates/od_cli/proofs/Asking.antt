@@ -1,7 +1,7 @@
 -- Another client's request, and what it prints.
-use Rattle.std.proofs.Common.{◌≡◌, ℕ, true, false, List, ◌++◌, Option, Some, None, Result, Ok, Err, OnOk, refl, sym, ap, ◌∙◌, append-nil}
+use Rattle.std.proofs.Common.{◌≡◌, ℕ, List, ◌++◌, Option, Some, None, Result, Ok, Err, OnOk, sym, ap, ◌∙◌, append-nil}
 use Rattle.gd_item.specs.Answers.{answer}
-use Rattle.gd_item.specs.Sessions.{State, held}
+use Rattle.gd_item.specs.Sessions.{held}
 use Rattle.gd_item.specs.Steps.{state_of}
 use Rattle.gd_item.specs.declared.reply.Reply.{Reply}
 use Rattle.gd_item.specs.declared.request.Request.{Request}

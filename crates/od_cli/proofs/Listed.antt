@@ -1,9 +1,8 @@
 -- What a drive lists lives on it, and a file has its bytes there.
-use Rattle.std.proofs.Common.{◌≡◌, ℕ, zero, suc, ◌<◌, true, false, ◌||◌, not, cond, nat_eq, List, [], ◌∷◌, Option, Some, None, is_some, is_none, Result, Ok, Err, IfOk, IfErr, inl, inr, refl, sym, ap, ◌∙◌, subst, eq-eqb, arith}
+use Rattle.std.proofs.Common.{◌≡◌, ℕ, zero, suc, ◌<◌, true, ◌||◌, not, cond, nat_eq, List, [], ◌∷◌, Option, Some, None, is_some, is_none, Result, Ok, Err, IfOk, IfErr, inl, inr, refl, sym, ap, ◌∙◌, subst, eq-eqb, arith}
 use Rattle.std.specs.List.{All, AllByRecursion}
 use Rattle.std.specs.Map.{values_of}
 use Rattle.std.specs.Option.{option_map}
-use Rattle.std.proofs.lemmas.Bool.Decides.{nat_tests}
 use Rattle.gd_names.specs.Causes.{first_cause}
 use Rattle.gd_names.specs.Ordered.{in_order}
 use Rattle.gd_item.specs.Inventory.{Inventory, Effect, inventory, live_at}

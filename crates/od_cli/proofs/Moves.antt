@@ -2,7 +2,7 @@
 use Rattle.std.proofs.Common.{◌≡◌, ℕ, List, Option, Some, None, refl, sym, ap, ◌∙◌}
 use Rattle.std.specs.Option.{option_map}
 use Rattle.gd_item.specs.Ids.{item_id}
-use Rattle.gd_item.specs.Inventory.{Inventory, Effect, inventory}
+use Rattle.gd_item.specs.Inventory.{Effect, inventory}
 use Rattle.gd_item.specs.Nodes.{number_at}
 use Rattle.gd_item.specs.Places.{names_above, last_name}
 use Rattle.gd_item.specs.Sessions.{held}

@@ -9,9 +9,6 @@ use Rattle.gd_item.specs.declared.item.Item.{Item}
 use Rattle.gd_item.specs.declared.reply.Page.{Page}
 use Rattle.gd_item.specs.declared.reply.PageLink.{PageLink}
 use Rattle.gd_item.specs.declared.reply.PageLink.TheVariants as link
-use Rattle.gd_item.specs.declared.reply.Reply.{Reply}
-use Rattle.gd_item.specs.declared.reply.Reply.TheVariants as reply
-use Rattle.gd_item.specs.declared.request.Request.TheVariants.{Delta}
 use Rattle.gd_item.specs.declared.step.Step.{Step}
 use Rattle.gd_item.proofs.Effects.{number-inventory}
 use Rattle.gd_delta.specs.Served.{is_last}
@@ -25,13 +22,12 @@ use Rattle.std.proofs.lemmas.Map.Entries.{length-values_of}
 use Rattle.gd_laws.proofs.Marks.{is-marked}
 use Rattle.gd_store.specs.Stands.{StoreValue, Stands, pruned}
 use Rattle.gd_item.specs.Records.{records_of}
-use Rattle.od_mirror.specs.Pulled.{Pulled, begun, after_link, after_page, with_records, nodes, is_bad, IsLeastBad, taken_of}
-use Rattle.od_mirror.specs.declared.mirror.Taken.{Taken}
-use Rattle.od_mirror.specs.declared.mirror.Taken.TheVariants.{Last, More}
+use Rattle.od_mirror.specs.Pulled.{Pulled, begun, after_page, with_records, nodes, is_bad, IsLeastBad, taken_of}
+use Rattle.od_mirror.specs.declared.mirror.Taken.TheVariants.{Last}
 use Rattle.od_mirror.proofs.Pulling.{feed-gives-all, link-items}
 use Rattle.od_mirror.proofs.Standing.{records-fit}
 use Rattle.od_cli.specs.Pulled.{whole_items, IsWhole}
-use Rattle.od_cli.specs.Worlds.{page_size, Holds}
+use Rattle.od_cli.specs.Worlds.{Holds}
 
 -- where no more follow all were given
 all-given : (most : ℕ) (changes : List (ℕ × Item)) → last_of most changes ≡ None → first_of most changes ≡ values_of changes

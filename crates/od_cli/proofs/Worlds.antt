@@ -1,15 +1,8 @@
 -- What the world's drive replies to this client.
-use Rattle.std.proofs.Common.{◌≡◌, ◌⊎◌, ℕ, ◌+◌, ◌^◌, ◌≤◌, min, Bool, true, false, not, ◌&&◌, ◌||◌, cond, nat_eq, nat_lt, max, ◌-◌, List, [], ◌∷◌, ◌++◌, length, codes, slice_index, Option, Some, None, Result, Ok, Err, append-nil, inl, inr, refl, sym, ap, ◌∙◌, subst, arith}
-use Rattle.std.specs.Cmp.Lexicographic.{pointwise}
-use Rattle.std.specs.Map.{keys_of, values_of}
-use Rattle.std.proofs.lemmas.Bool.Decides.{nat_tests}
-use Rattle.std.proofs.lemmas.List.{take_all}
-use Rattle.std.proofs.lemmas.Map.Entries.{length-values_of}
-use Rattle.gd_names.specs.Causes.{first_cause}
+use Rattle.std.proofs.Common.{◌≡◌, ℕ, ◌+◌, ◌^◌, ◌≤◌, min, Bool, true, false, cond, ◌-◌, List, [], ◌∷◌, ◌++◌, Option, Some, None, Result, Ok, append-nil, inl, inr, refl, sym, ap, ◌∙◌, subst, arith}
 use Rattle.gd_item.specs.Answers.{answer, about, answer_unless, content_reply, delta_reply, found_reply, shown}
 use Rattle.gd_item.specs.Inventory.{Effect, Inventory, live_at}
 use Rattle.gd_item.specs.Pages.{Asked, Past, Latest, Bad, Lost, asked, is_bad, latest_page, page_past}
-use Rattle.gd_item.specs.Records.{feed, first_of, last_of}
 use Rattle.gd_item.specs.Faults.{code_of, status_of}
 use Rattle.gd_item.specs.Replies.{has_status}
 use Rattle.gd_item.specs.Refused.{Refusal, at_target, by_store, refuse, refusal}
@@ -18,12 +11,10 @@ use Rattle.gd_item.specs.Sessions.{State, held, new_state}
 use Rattle.gd_item.specs.Steps.{after_request, after_step, held_by, is_accepted, state_of}
 use Rattle.gd_item.specs.Targets.{target_of}
 use Rattle.gd_item.specs.Versions.{version_at}
-use Rattle.gd_item.specs.Tokens.{fields_from, token_of_fields, token_of_text}
 use Rattle.gd_item.specs.declared.fault.ErrorCode.TheVariants.{InvalidRequest}
 use Rattle.gd_item.specs.declared.fault.StoreFault.{StoreFault}
 use Rattle.gd_item.specs.declared.fault.StoreFault.TheVariants as fault
 use Rattle.gd_item.specs.declared.id.ItemId.{ItemId}
-use Rattle.gd_item.specs.declared.item.Item.{Item}
 use Rattle.gd_item.specs.declared.request.Address.{Address}
 use Rattle.gd_item.specs.declared.live.LiveItem.{LiveItem}
 use Rattle.gd_item.specs.declared.reply.Page.{Page}
@@ -31,14 +22,12 @@ use Rattle.gd_item.specs.declared.reply.PageLink.{PageLink}
 use Rattle.gd_item.specs.declared.reply.PageLink.TheVariants as link
 use Rattle.gd_item.specs.declared.reply.Reply.{Reply}
 use Rattle.gd_item.specs.declared.reply.Reply.TheVariants as reply
-use Rattle.gd_item.specs.declared.reply.Resync.TheVariants.{ApplyDifferences, UploadDifferences}
 use Rattle.gd_item.specs.declared.request.Request.{Request}
-use Rattle.gd_item.specs.declared.request.Request.TheVariants.{Get, Children, MakeFolder, Put, Patch, Delete, Content, Download, OpenSession, Fragment, SessionStatus, CancelSession, Finish, Delta}
+use Rattle.gd_item.specs.declared.request.Request.TheVariants.{Content, Download, OpenSession, Fragment, SessionStatus, CancelSession, Finish, Delta}
 use Rattle.gd_item.specs.declared.step.Step.{Step}
 use Rattle.gd_item.specs.declared.step.Step.TheVariants.{Ask}
 use Rattle.gd_item.specs.declared.step.Who.{Who}
 use Rattle.gd_item.specs.declared.step.Who.TheVariants.{Own}
-use Rattle.gd_item.specs.declared.token.Token.{Token}
 use Rattle.gd_api.specs.Drives.{DriveValue, Has, Stands, Handles, is_refusal}
 use Rattle.gd_store.specs.Stands.{StoreValue, Stands as StandsFor}
 use Rattle.gd_delta.specs.Served.{answer_to, is_last, Serves}
