@@ -1,12 +1,10 @@
 -- What a whole request asks for: the methods of each resource, and what is read for each. A target that names nothing
 -- comes first, then a method that it has not, then a query, a header or a body that is not as it has to be.
-use Rattle.std.specs.Prelude.{◌≡◌, ℕ, Bool, not, cond, List, [], ◌∷◌, length, nat_eq, codes, Option, Some, None, option_map, unwrap_or, Result, Ok, Err}
-use Rattle.std.specs.Str.{is_utf8}
+use Rattle.std.specs.Prelude.{ℕ, cond, List, [], ◌∷◌, length, nat_eq, codes, Option, Some, None, option_map, unwrap_or, Result, Ok, Err}
 use Rattle.gd_names.specs.Escapes.{unescaped}
 use Rattle.gd_names.specs.declared.conflict.Conflict.{Conflict}
 use Rattle.gd_names.specs.declared.conflict.Conflict.TheVariants.{Replace}
 use Rattle.gd_item.specs.declared.fault.ErrorCode.TheVariants as code
-use Rattle.gd_item.specs.declared.id.ItemId.{ItemId}
 use Rattle.gd_item.specs.declared.request.Address.{Address}
 use Rattle.gd_item.specs.declared.request.Request.{Request}
 use Rattle.gd_item.specs.declared.request.Request.TheVariants as request

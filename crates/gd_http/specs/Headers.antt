@@ -1,6 +1,6 @@
 -- What the headers of a message say (RFC 9110). Names are caseless.
-use Rattle.std.specs.Prelude.{◌≡◌, ℕ, Bool, ◌&&◌, ◌||◌, cond, List, [], ◌∷◌, nat_eq, codes, Option, Some, None, option_and_then, Result, Ok, Err}
-use Rattle.std.specs.List.{filter_map, list_any}
+use Rattle.std.specs.Prelude.{ℕ, cond, List, codes, Option, Some, None, option_and_then, Result, Ok, Err}
+use Rattle.std.specs.List.{filter_map}
 use Rattle.std.specs.Str.{is_utf8}
 use Rattle.gd_names.specs.Caseless.{equal_caseless}
 use Rattle.gd_item.specs.declared.condition.Condition.{Condition}

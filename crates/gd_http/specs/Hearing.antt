@@ -1,10 +1,6 @@
 -- What readers of requests hear, piece by piece.
-use Rattle.std.specs.Prelude.{◌≡◌, ℕ, Bool, ◌||◌, cond, List, [], ◌∷◌, codes, nat_eq, Result, Ok, OnOk}
-use Rattle.std.specs.List.{list_any}
-use Rattle.gd_names.specs.Caseless.{equal_caseless}
+use Rattle.std.specs.Prelude.{◌≡◌, ℕ, Bool, cond, List, Result, OnOk}
 use Rattle.gd_names.specs.declared.memory.NoMemory.{NoMemory}
-use Rattle.gd_target.specs.Cuts.{parts}
-use Rattle.gd_frame.specs.declared.frame.Field.{Field}
 use Rattle.gd_frame.specs.declared.frame.RequestFrame.{RequestFrame}
 use Rattle.gd_frame.specs.declared.step.ReadState.{ReadState}
 use Rattle.gd_frame.specs.declared.step.ReadState.TheVariants.{Spent}

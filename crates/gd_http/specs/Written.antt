@@ -1,5 +1,5 @@
 -- The one spelling of requests.
-use Rattle.std.specs.Prelude.{ℕ, List, [], ◌∷◌, ◌++◌, length, drop, codes, Option, Some, None}
+use Rattle.std.specs.Prelude.{ℕ, List, [], ◌++◌, length, drop, codes, Option, Some, None}
 use Rattle.std.specs.Fmt.{decimal}
 use Rattle.serde_json.specs.Written.{compact_text}
 use Rattle.gd_item.specs.declared.condition.Condition.{Condition}
@@ -7,9 +7,6 @@ use Rattle.gd_item.specs.declared.condition.Condition.TheVariants.{Free, Match}
 use Rattle.gd_item.specs.declared.request.Request.{Request}
 use Rattle.gd_item.specs.declared.request.Request.TheVariants as request
 use Rattle.gd_json.specs.Changes.{folder_data, patch_data, begin_data}
-use Rattle.gd_json.specs.declared.begin.BeginBody.{BeginBody}
-use Rattle.gd_json.specs.declared.folder.FolderBody.{FolderBody}
-use Rattle.gd_json.specs.declared.patch.PatchBody.{PatchBody}
 use Rattle.gd_target.specs.Targets.{target_text}
 
 abbrev pub line_end : List ℕ

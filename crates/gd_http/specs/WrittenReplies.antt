@@ -1,5 +1,5 @@
 -- The one spelling of replies.
-use Rattle.std.specs.Prelude.{ℕ, List, [], ◌∷◌, ◌++◌, length, codes, Option, Some, None, ◌==◌, if◌then◌else◌}
+use Rattle.std.specs.Prelude.{ℕ, List, [], ◌++◌, length, codes, Option, Some, None, ◌==◌, if◌then◌else◌}
 use Rattle.std.specs.Fmt.{decimal}
 use Rattle.serde_json.specs.Written.{compact_text}
 use Rattle.gd_item.specs.Replies.{status_of_reply}
@@ -13,8 +13,6 @@ use Rattle.gd_json.specs.Errors.{error_data}
 use Rattle.gd_json.specs.Items.{item_data}
 use Rattle.gd_json.specs.Lists.{children_data, page_data}
 use Rattle.gd_json.specs.Sessions.{session_data}
-use Rattle.gd_json.specs.declared.children.ChildList.{ChildList}
-use Rattle.gd_json.specs.declared.session.SessionBody.{SessionBody}
 use Rattle.gd_target.specs.Targets.{download_text, delta_text}
 use Rattle.gd_http.specs.Written.{line_end, field_text, or_bytes, type_text, length_text, body_text}
 

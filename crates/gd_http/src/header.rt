@@ -24,7 +24,10 @@ fn value_in<'f>(name: &[u8], field: &'f Field) -> Option<&'f [u8]>
 }
 
 /// The one value that the headers have under a name, if any.
-pub fn header_value<'f>(fields: &'f List<Field>, name: &[u8]) -> Result<Option<&'f [u8]>, RequestFault>
+pub fn header_value<'f>(
+    fields: &'f List<Field>,
+    name: &[u8],
+) -> Result<Option<&'f [u8]>, RequestFault>
     ensures { Gives shown result (once (header_values name.now fields.now)) }
 {
     let mut found = None;

@@ -16,8 +16,8 @@ mod telling;
 mod word;
 mod writing;
 
-pub use gd_frame::{MAX_BODY, MAX_HEAD, MAX_HEADERS, MessageCause, ReadStep, ReplyEnd, reply_end};
 pub use fault::ReplyFault;
+pub use gd_frame::{MAX_BODY, MAX_HEAD, MAX_HEADERS, MessageCause, ReadStep, ReplyEnd, reply_end};
 pub use incoming::Incoming;
 pub use range::Range;
 pub use reader::RequestReader;

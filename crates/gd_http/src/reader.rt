@@ -2,7 +2,6 @@
 ghost use Rattle.std.specs.Prelude.{◌≡◌, ◌≤◌, ◌==◌, Ok, IsErr, length};
 ghost use Rattle.gd_frame.specs.Reading.{fresh};
 ghost use Rattle.gd_frame.specs.declared.message.MessageCause.{MessageCause};
-
 ghost use Rattle.gd_http.specs.Hearing.{RequestBytes, Hears};
 
 use crate::incoming::Incoming;

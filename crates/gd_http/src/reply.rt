@@ -69,7 +69,10 @@ fn okay_of(alloc: Global, wire: &Wire, kind: RequestKind, bytes: Bytes) -> Resul
 fn may_make(kind: RequestKind) -> bool
     ensures { result ≡ may_make kind }
 {
-    matches!(kind, RequestKind::MakeFolder | RequestKind::Put | RequestKind::Fragment | RequestKind::Finish)
+    matches!(
+        kind,
+        RequestKind::MakeFolder | RequestKind::Put | RequestKind::Fragment | RequestKind::Finish
+    )
 }
 
 fn is_fragment(kind: RequestKind) -> bool
@@ -138,7 +141,12 @@ fn anew_of(alloc: Global, bytes: &Bytes) -> Result<Reply, ReplyFault>
 
 /// A token is gone: the link says where to begin anew, and the code how.
 #[tactic(auto, unfolding(crate::specs::Answering::gone_of))]
-fn gone_of(alloc: Global, wire: &Wire, fields: &List<Field>, bytes: &Bytes) -> Result<Reply, ReplyFault>
+fn gone_of(
+    alloc: Global,
+    wire: &Wire,
+    fields: &List<Field>,
+    bytes: &Bytes,
+) -> Result<Reply, ReplyFault>
     ensures { Tells result (gone_of wire.now.base fields.now bytes.now) }
 {
     let link = location_of(fields)?;
@@ -158,8 +166,8 @@ fn has_status(code: ErrorCode, status: u16) -> bool
         ErrorCode::ItemNotFound => status == 404,
         ErrorCode::NotSupported => status == 405 || status == 501,
         ErrorCode::NameAlreadyExists => status == 409,
-        ErrorCode::ResyncChangesApplyDifferences
-        | ErrorCode::ResyncChangesUploadDifferences => status == 410,
+        ErrorCode::ResyncChangesApplyDifferences | ErrorCode::ResyncChangesUploadDifferences =>
+            status == 410,
         ErrorCode::ResourceModified => status == 412,
         ErrorCode::FailedDependency => status == 424,
         ErrorCode::GeneralException => status == 503,
@@ -181,7 +189,12 @@ fn refused_of(alloc: Global, status: u16, bytes: &Bytes) -> Result<Reply, ReplyF
 
 /// What a whole reply to a request of this kind says.
 #[tactic(auto, unfolding(crate::specs::Answering::reply_of))]
-pub fn reply_from(alloc: Global, kind: RequestKind, frame: ReplyFrame, wire: &Wire) -> Result<Reply, ReplyFault>
+pub fn reply_from(
+    alloc: Global,
+    kind: RequestKind,
+    frame: ReplyFrame,
+    wire: &Wire,
+) -> Result<Reply, ReplyFault>
     ensures { Tells result (reply_of wire.now.base kind frame.status frame.fields frame.body) }
 {
     let ReplyFrame {

@@ -16,7 +16,13 @@ use gd_target::{RequestFault, Resource, named_by, query_of};
 use std::alloc::Global;
 
 #[tactic(auto, unfolding(crate::specs::Asking::on_item))]
-fn on_item(alloc: Global, at: Address, method: Method, fields: &List<Field>, bytes: &Bytes) -> Result<Incoming, RequestFault>
+fn on_item(
+    alloc: Global,
+    at: Address,
+    method: Method,
+    fields: &List<Field>,
+    bytes: &Bytes,
+) -> Result<Incoming, RequestFault>
     ensures { Gives (λ x. x) result (on_item at method fields.now bytes.now) }
 {
     match method {
@@ -40,7 +46,13 @@ fn on_item(alloc: Global, at: Address, method: Method, fields: &List<Field>, byt
 }
 
 #[tactic(auto, unfolding(crate::specs::Asking::on_children))]
-fn on_children(alloc: Global, at: Address, method: Method, query: Option<&[u8]>, bytes: &Bytes) -> Result<Incoming, RequestFault>
+fn on_children(
+    alloc: Global,
+    at: Address,
+    method: Method,
+    query: Option<&[u8]>,
+    bytes: &Bytes,
+) -> Result<Incoming, RequestFault>
     ensures { Gives (λ x. x) result (on_children at method (shown query.entry) bytes.now) }
 {
     match method {
@@ -63,7 +75,14 @@ fn on_children(alloc: Global, at: Address, method: Method, query: Option<&[u8]>,
 }
 
 #[tactic(auto, unfolding(crate::specs::Asking::on_content))]
-fn on_content(alloc: Global, at: Address, method: Method, query: Option<&[u8]>, fields: &List<Field>, bytes: Bytes) -> Result<Incoming, RequestFault>
+fn on_content(
+    alloc: Global,
+    at: Address,
+    method: Method,
+    query: Option<&[u8]>,
+    fields: &List<Field>,
+    bytes: Bytes,
+) -> Result<Incoming, RequestFault>
     ensures { Gives (λ x. x) result (on_content at method (shown query.entry) fields.now bytes) }
 {
     match method {
@@ -85,7 +104,13 @@ fn on_content(alloc: Global, at: Address, method: Method, query: Option<&[u8]>, 
 }
 
 #[tactic(auto, unfolding(crate::specs::Asking::on_uploads))]
-fn on_uploads(alloc: Global, at: Address, method: Method, fields: &List<Field>, bytes: &Bytes) -> Result<Incoming, RequestFault>
+fn on_uploads(
+    alloc: Global,
+    at: Address,
+    method: Method,
+    fields: &List<Field>,
+    bytes: &Bytes,
+) -> Result<Incoming, RequestFault>
     ensures { Gives (λ x. x) result (on_uploads at method fields.now bytes.now) }
 {
     match method {
@@ -118,7 +143,12 @@ fn finish(session: u64, bytes: &Bytes) -> Result<Incoming, RequestFault>
 }
 
 #[tactic(auto, unfolding(crate::specs::Asking::on_session))]
-fn on_session(session: u64, method: Method, fields: &List<Field>, bytes: Bytes) -> Result<Incoming, RequestFault>
+fn on_session(
+    session: u64,
+    method: Method,
+    fields: &List<Field>,
+    bytes: Bytes,
+) -> Result<Incoming, RequestFault>
     ensures { Gives (λ x. x) result (on_session session method fields.now bytes) }
 {
     match method {
@@ -204,12 +234,25 @@ fn asked_of(
 }
 
 #[tactic(auto, unfolding(crate::specs::Asking::asked))]
-fn asked(alloc: Global, method: &Bytes, target: &Bytes, fields: &List<Field>, bytes: Bytes) -> Result<Incoming, RequestFault>
+fn asked(
+    alloc: Global,
+    method: &Bytes,
+    target: &Bytes,
+    fields: &List<Field>,
+    bytes: Bytes,
+) -> Result<Incoming, RequestFault>
     ensures { Gives (λ x. x) result (asked method.now target.now fields.now bytes) }
 {
     let target = target.as_slice();
     let resource = named_by(alloc, target)?;
-    asked_of(alloc, resource, method_of(method.as_slice()), query_of(target), fields, bytes)
+    asked_of(
+        alloc,
+        resource,
+        method_of(method.as_slice()),
+        query_of(target),
+        fields,
+        bytes,
+    )
 }
 
 /// What a whole request asks for, or why it asks for nothing.
@@ -225,9 +268,18 @@ pub fn incoming_from(alloc: Global, frame: RequestFrame) -> Result<Incoming, NoM
     } = frame;
     match asked(alloc, &method, &target, &fields, body) {
         Ok(message) => Ok(message),
-        Err(RequestFault::NotFound) => Ok(Incoming::Refuse { status: 404, code: ErrorCode::ItemNotFound }),
-        Err(RequestFault::NotAllowed) => Ok(Incoming::Refuse { status: 405, code: ErrorCode::NotSupported }),
-        Err(RequestFault::Invalid) => Ok(Incoming::Refuse { status: 400, code: ErrorCode::InvalidRequest }),
+        Err(RequestFault::NotFound) => Ok(Incoming::Refuse {
+            status: 404,
+            code: ErrorCode::ItemNotFound,
+        }),
+        Err(RequestFault::NotAllowed) => Ok(Incoming::Refuse {
+            status: 405,
+            code: ErrorCode::NotSupported,
+        }),
+        Err(RequestFault::Invalid) => Ok(Incoming::Refuse {
+            status: 400,
+            code: ErrorCode::InvalidRequest,
+        }),
         Err(RequestFault::Memory) => Err(NoMemory),
     }
 }

@@ -104,7 +104,13 @@ fn download_link(alloc: Global, wire: &Wire, id: ItemId, version: u64) -> Result
 }
 
 #[tactic(auto, unfolding(crate::specs::WrittenReplies::link_field))]
-fn put_found(alloc: Global, out: &mut Bytes, wire: &Wire, id: ItemId, version: u64) -> Result<(), NoMemory>
+fn put_found(
+    alloc: Global,
+    out: &mut Bytes,
+    wire: &Wire,
+    id: ItemId,
+    version: u64,
+) -> Result<(), NoMemory>
     ensures { OnOk result (out.new ≡ out.old ++ link_field wire.now.base (download_text id version)) }
 {
     let link = download_link(alloc, wire, id, version)?;
@@ -212,7 +218,12 @@ fn put_content_type(out: &mut Bytes, reply: &Reply, json: &Option<Bytes>) -> Res
     }
 }
 
-fn put_reply_length(alloc: Global, out: &mut Bytes, reply: &Reply, length: usize) -> Result<(), NoMemory>
+fn put_reply_length(
+    alloc: Global,
+    out: &mut Bytes,
+    reply: &Reply,
+    length: usize,
+) -> Result<(), NoMemory>
     ensures { OnOk result (out.new ≡ out.old ++ length_header reply.now length) }
 {
     match reply {
@@ -229,7 +240,13 @@ fn put_front(alloc: Global, out: &mut Bytes, reply: &Reply, wire: &Wire) -> Resu
     Ok(())
 }
 
-fn put_rest(alloc: Global, out: &mut Bytes, reply: &Reply, json: &Option<Bytes>, body: &[u8]) -> Result<(), NoMemory>
+fn put_rest(
+    alloc: Global,
+    out: &mut Bytes,
+    reply: &Reply,
+    json: &Option<Bytes>,
+    body: &[u8],
+) -> Result<(), NoMemory>
     ensures { OnOk result (out.new ≡ out.old ++ reply_rest reply.now json.now body.now) }
 {
     put_content_type(out, reply, json)?;
@@ -246,6 +263,12 @@ pub fn write_reply(alloc: Global, reply: &Reply, wire: &Wire) -> Result<Bytes, N
     let json = json_of(alloc, reply, wire)?;
     let mut out = Bytes::new(alloc);
     put_front(alloc, &mut out, reply, wire)?;
-    put_rest(alloc, &mut out, reply, &json, or_bytes(&json, bytes_of(reply)))?;
+    put_rest(
+        alloc,
+        &mut out,
+        reply,
+        &json,
+        or_bytes(&json, bytes_of(reply)),
+    )?;
     Ok(out)
 }

@@ -99,7 +99,10 @@ fn put_range(alloc: Global, out: &mut Bytes, request: &Request) -> Result<(), No
 {
     match request {
         Request::Fragment {
-            first, last, total, ..
+            first,
+            last,
+            total,
+            ..
         } => {
             let value = range_value(alloc, *first, *last, *total)?;
             put_field(out, b"Content-Range", value.as_bytes())
@@ -114,7 +117,9 @@ fn json_of(alloc: Global, request: &Request) -> Result<Option<Bytes>, NoMemory>
 {
     match request {
         Request::MakeFolder {
-            name, behaviour, ..
+            name,
+            behaviour,
+            ..
         } => {
             let body = FolderBody {
                 name: name.clone()?,
@@ -194,7 +199,12 @@ fn put_first(alloc: Global, out: &mut Bytes, request: &Request, wire: &Wire) -> 
     Ok(())
 }
 
-fn put_last(alloc: Global, out: &mut Bytes, json: &Option<Bytes>, body: &[u8]) -> Result<(), NoMemory>
+fn put_last(
+    alloc: Global,
+    out: &mut Bytes,
+    json: &Option<Bytes>,
+    body: &[u8],
+) -> Result<(), NoMemory>
     ensures { OnOk result (out.new ≡ out.old ++ last_part json.now body.now) }
 {
     put_type(out, json)?;

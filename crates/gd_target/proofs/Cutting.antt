@@ -1,11 +1,9 @@
 -- Where a text is cut.
-use Rattle.std.proofs.Common.{◌≡◌, ◌≢◌, ℕ, zero, suc, ◌+◌, ◌-◌, ◌<◌, ◌≤◌, true, false, cond, not, ◌&&◌, List, [], ◌∷◌, length, take, drop, get_or, nat_eq, Option, Some, None, option_map, refl, sym, ap, ◌∙◌, ⊎_elim, arith, add-one}
-use Rattle.std.specs.List.{list_all, starts_with}
+use Rattle.std.proofs.Common.{◌≡◌, ◌≢◌, ℕ, zero, suc, ◌-◌, ◌<◌, ◌≤◌, false, List, [], ◌∷◌, length, take, drop, get_or, nat_eq, Some, None, refl, sym, ap, ◌∙◌, ⊎_elim, arith, add-one}
 use Rattle.std.proofs.lemmas.Bool.{cond-true, cond-false, ne_eqb, eq-eqb, cases_Bool}
-use Rattle.std.proofs.lemmas.List.{length-drop, length-take, take_all, take_rest, drop-drop}
-use Rattle.gd_item.specs.Ids.{item_id, id_of_text}
+use Rattle.std.proofs.lemmas.List.{length-drop, take_all, take_rest, drop-drop}
 use Rattle.gd_json.specs.Numbers.{item_id_of}
-use Rattle.gd_target.specs.Cuts.{before, cut, to_first, parts, parts_after}
+use Rattle.gd_target.specs.Cuts.{before, cut, parts, parts_after}
 
 found_at : (at : ℕ) (text : List ℕ) (n : ℕ) → n < length text → ((k : ℕ) → k < n → get_or text k 0 ≢ at) → get_or text n 0 ≡ at
     → cut at text ≡ (take n text, Some (drop (suc n) text))

@@ -1,5 +1,5 @@
 -- The values of a query's member, part after part.
-use Rattle.std.proofs.Common.{◌≡◌, ℕ, List, [], ◌∷◌, Option, Some, None, Ok, Err, refl, sym, ap, ◌∙◌}
+use Rattle.std.proofs.Common.{◌≡◌, ℕ, List, [], Option, Some, None, Ok, Err, refl, sym, ap, ◌∙◌}
 use Rattle.std.specs.List.{cons_option, filter_map}
 use Rattle.gd_target.specs.declared.fault.RequestFault.TheVariants.{Invalid}
 use Rattle.gd_target.specs.declared.query.QueryMember.{QueryMember}

@@ -1,5 +1,5 @@
 -- The one spelling of each target.
-use Rattle.std.specs.Prelude.{ℕ, List, [], ◌∷◌, ◌++◌, codes, Option, Some, None}
+use Rattle.std.specs.Prelude.{ℕ, List, ◌++◌, codes, Option, Some, None}
 use Rattle.std.specs.Fmt.{decimal}
 use Rattle.gd_names.specs.Escapes.{escaped}
 use Rattle.gd_names.specs.Paths.{path_text}

@@ -45,7 +45,10 @@ pub fn query_of(target: &[u8]) -> Option<&[u8]>
 }
 
 /// One value more, of which there may be one in all.
-pub fn one_more<'t>(found: Option<&'t [u8]>, value: Option<&'t [u8]>) -> Result<Option<&'t [u8]>, RequestFault>
+pub fn one_more<'t>(
+    found: Option<&'t [u8]>,
+    value: Option<&'t [u8]>,
+) -> Result<Option<&'t [u8]>, RequestFault>
     ensures ok { IfOk result (λ o. (others : List (List ℕ)) → once (cons_option (shown found.entry) (cons_option (shown value.entry) others)) ≡ once (cons_option (shown o) others)) }
     ensures err { IfErr result (λ e. (e ≡ RequestFault.Invalid) × ((others : List (List ℕ)) → once (cons_option (shown found.entry) (cons_option (shown value.entry) others)) ≡ Err RequestFault.Invalid)) }
 {
@@ -72,7 +75,10 @@ fn value_among<'t>(member: QueryMember, query: &'t [u8]) -> Result<Option<&'t [u
 }
 
 /// The one value that a query has for a member, if any.
-pub fn query_value<'t>(member: QueryMember, query: Option<&'t [u8]>) -> Result<Option<&'t [u8]>, RequestFault>
+pub fn query_value<'t>(
+    member: QueryMember,
+    query: Option<&'t [u8]>,
+) -> Result<Option<&'t [u8]>, RequestFault>
     ensures { Gives shown result (once (query_values member (shown query.entry))) }
 {
     match query {

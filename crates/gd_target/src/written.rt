@@ -96,7 +96,12 @@ fn put_skip(alloc: Global, out: &mut Bytes, name: &Text) -> Result<(), NoMemory>
     put_both(out, b"?$skiptoken=", segment.as_bytes())
 }
 
-fn put_children(alloc: Global, out: &mut Bytes, at: &Address, after: &Option<Text>) -> Result<(), NoMemory>
+fn put_children(
+    alloc: Global,
+    out: &mut Bytes,
+    at: &Address,
+    after: &Option<Text>,
+) -> Result<(), NoMemory>
     ensures { OnOk result (out.new ≡ out.old ++ children_text at.now after.now) }
 {
     put_part(alloc, out, at, b"children")?;
@@ -121,10 +126,19 @@ fn behaviour_text(behaviour: Conflict) -> &'static [u8]
 fn put_behaviour(out: &mut Bytes, behaviour: Conflict) -> Result<(), NoMemory>
     ensures { OnOk result (out.new ≡ out.old ++ behaviour_query behaviour) }
 {
-    put_both(out, b"?@microsoft.graph.conflictBehavior=", behaviour_text(behaviour))
+    put_both(
+        out,
+        b"?@microsoft.graph.conflictBehavior=",
+        behaviour_text(behaviour),
+    )
 }
 
-fn put_content(alloc: Global, out: &mut Bytes, at: &Address, behaviour: Conflict) -> Result<(), NoMemory>
+fn put_content(
+    alloc: Global,
+    out: &mut Bytes,
+    at: &Address,
+    behaviour: Conflict,
+) -> Result<(), NoMemory>
     ensures { OnOk result (out.new ≡ out.old ++ content_text at.now behaviour) }
 {
     put_part(alloc, out, at, b"content")?;
@@ -149,7 +163,12 @@ fn put_version(alloc: Global, out: &mut Bytes, version: u64) -> Result<(), NoMem
 }
 
 /// Appends where the bytes of a version are.
-pub fn put_download(alloc: Global, out: &mut Bytes, id: ItemId, version: u64) -> Result<(), NoMemory>
+pub fn put_download(
+    alloc: Global,
+    out: &mut Bytes,
+    id: ItemId,
+    version: u64,
+) -> Result<(), NoMemory>
     ensures { OnOk result (out.new ≡ out.old ++ download_text id version) }
 {
     put_downloads(alloc, out, id)?;

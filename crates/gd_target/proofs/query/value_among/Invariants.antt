@@ -1,4 +1,4 @@
-use Rattle.std.proofs.Common.{◌≡◌, length, Some}
+use Rattle.std.proofs.Common.{◌≡◌, length}
 use Rattle.std.specs.List.{cons_option, filter_map}
 use Rattle.gd_target.specs.Cuts.{parts}
 use Rattle.gd_target.specs.Queries.{shown, once, value_in}
