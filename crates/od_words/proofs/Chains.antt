@@ -1,9 +1,8 @@
 -- From what was found to the command.
-use Rattle.std.proofs.Common.{◌≡◌, ◌<◌, List, [], ◌∷◌, length, map, string_bytes, Option, Some, None, Result, Ok, Err, IfOk, subst, refl, sym, ap, ◌∙◌, slice_index_or, arith, String, Global}
+use Rattle.std.proofs.Common.{◌≡◌, List, Option, Some, None, Result, Err, IfOk, subst, refl, sym, ap, ◌∙◌}
 use Rattle.std.specs.Prelude.{option_and_then, IsErrOf}
 use Rattle.std.proofs.lemmas.Result.{IfOk-weaker}
 use Rattle.clap.specs.Words.{App, Row, Text}
-use Rattle.od_words.specs.Commands.{command_named, command_of}
 use Rattle.od_words.specs.Found.{found_in}
 
 module _ {B : Type 0} (f : List Row → Option B) (app made : App) (words : List Text) (is : made ≡ app) where

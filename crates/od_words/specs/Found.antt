@@ -1,5 +1,5 @@
 -- What `clap` finds at words, and what is read of it.
-use Rattle.std.specs.Prelude.{◌≡◌, ℕ, Bool, false, ◌&&◌, ◌^◌, if◌then◌else◌, List, [], ◌∷◌, length, codes, nat_lt, option_and_then, Option, Some, None}
+use Rattle.std.specs.Prelude.{ℕ, Bool, false, ◌&&◌, ◌^◌, if◌then◌else◌, List, [], ◌∷◌, length, codes, nat_lt, option_and_then, Option, Some, None}
 use Rattle.std.specs.Char.{digit_value}
 use Rattle.std.specs.List.{list_all}
 use Rattle.std.specs.Option.{option_map_or}

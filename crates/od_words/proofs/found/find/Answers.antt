@@ -1,4 +1,4 @@
-use Rattle.std.proofs.Common.{◌≡◌, map, string_bytes, sym, ◌∙◌, inl, inr, subst, ◌⊎◌}
+use Rattle.std.proofs.Common.{map, string_bytes, ◌∙◌}
 use Rattle.std.proofs.lemmas.Bool.{and_parts}
 use Rattle.clap.specs.Words.{app_of, fault_of, found_of, matches_of, rows_of}
 use Rattle.od_words.proofs.Finding.{found_rows, refused}

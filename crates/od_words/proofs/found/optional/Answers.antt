@@ -1,4 +1,3 @@
-use Rattle.std.proofs.Common.{rules}
 use Rattle.clap.specs.Words.{found_of}
 use Rattle.od_words.proofs.Finding.{found_text, found_no_text}
 use Rattle.od_words.proofs.found.optional.Goals as goal
