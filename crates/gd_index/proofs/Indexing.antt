@@ -5,7 +5,7 @@ use Rattle.std.specs.Ordering.{nat_cmp, is_eq}
 use Rattle.std.specs.declared.cmp.Ordering.{Ordering}
 use Rattle.gd_item.specs.declared.live.LiveItem.{LiveItem}
 use Rattle.gd_index.specs.declared.row.Row.{Row}
-use Rattle.gd_index.specs.Indexed.{at, Puts, Same, Indexes}
+use Rattle.gd_index.specs.Indexed.{at, Puts, Same, Moves, Indexes}
 use Rattle.gd_index.proofs.Orders.{IsOrder, numbers, told, never-apart, put-other}
 
 same-row : (a b : Row) → Some a ≡ Some b → a ≡ b
@@ -21,7 +21,7 @@ module _ {K : Type 0} {R : K → K → Ordering} (order : IsOrder R) (key : Live
   same-key : (a b : K) → Some a ≡ Some b → a ≡ b
   same-key a b is = cc
 
-  key-of : Option Row → Option K
+  abbrev key-of : Option Row → Option K
   key-of found = option_map (λ (row : Row). key row.item) found
 
   pub same-index : (rows : ℕ → Option Row) (old new : List (K × ℕ)) → Indexes key rows (at R old) → Same R old new → Indexes key rows (at R new)
@@ -80,14 +80,9 @@ module _ {K : Type 0} {R : K → K → Ordering} (order : IsOrder R) (key : Live
     pushed = record { listed = pushed-listed; sound = pushed-sound }
 
   -- an item that changes: its new key is free or its own, and its old key is left
-  pub record Moves (n : ℕ) (from to : K) (old new : List (K × ℕ)) : Type 0 where
-    pub here : at R new to ≡ Some n
-    pub free : (m : ℕ) → at R old to ≡ Some m → m ≡ n
-    pub kept : (k : K) → is_eq (R to k) ≡ false → is_eq (R from k) ≡ false → at R new k ≡ at R old k
-    pub left : is_eq (R to from) ≡ false → at R new from ≡ None
-
   module _ (n : ℕ) (first then : Row) (rows more : List (ℕ × Row)) (old new : List (K × ℕ)) (was : Indexes key (at nat_cmp rows) (at R old))
-      (stood : at nat_cmp rows n ≡ Some first) (put : Puts nat_cmp n (Some then) rows more) (move : Moves n (key first.item) (key then.item) old new) where
+      (stood : at nat_cmp rows n ≡ Some first) (put : Puts nat_cmp n (Some then) rows more) (free : (m : ℕ) → at R old (key then.item) ≡ Some m → m ≡ n)
+      (move : Moves R n (key first.item) (key then.item) old new) where
     apart-from-itself : (m : ℕ) → m ≡ n → is_eq (nat_cmp n m) ≡ false → ⊥
     apart-from-itself m same other = never-apart numbers n m (sym same) other
 
@@ -100,7 +95,7 @@ module _ {K : Type 0} {R : K → K → Ordering} (order : IsOrder R) (key : Live
           | inr other ↦
               let listed : at R old (key r.item) ≡ Some m = was.listed m r (sym (put-other numbers n m (Some then) rows more put other) ∙ there) in
               elim (told order (key then.item) (key r.item)) [
-                | inl same ↦ absurd (apart-from-itself m (move.free m (ap (at R old) same ∙ listed)) other)
+                | inl same ↦ absurd (apart-from-itself m (free m (ap (at R old) same ∙ listed)) other)
                 | inr apart ↦ elim (told order (key first.item) (key r.item)) [
                   | inl same ↦
                       let is : n ≡ m = same-number n m (sym (was.listed n first stood) ∙ ap (at R old) same ∙ listed) in

@@ -2,3 +2,4 @@ pub mod Finding
 pub mod Indexing
 pub mod Lines
 pub mod Orders
+pub mod Steps

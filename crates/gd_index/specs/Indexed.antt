@@ -1,11 +1,11 @@
 -- Items in three maps: by number, each beside the digest of its bytes; the numbers by folder and name in lower case;
 -- the numbers by change number.
-use Rattle.std.specs.Prelude.{◌≡◌, ℕ, Bool, ◌&&◌, cond, List, [], ◌∷◌, map, find, nat_eq, Option, Some, None}
+use Rattle.std.specs.Prelude.{◌≡◌, ℕ, Bool, false, ◌&&◌, cond, List, [], ◌∷◌, map, find, nat_eq, Option, Some, None}
 use Rattle.std.specs.List.{AllByRecursion}
 use Rattle.std.specs.List.Sorted.{IsStrictlySortedBy}
 use Rattle.std.specs.Map.{lookup, keys_of}
 use Rattle.std.specs.Option.{option_map}
-use Rattle.std.specs.Ordering.{nat_cmp, ordering_then}
+use Rattle.std.specs.Ordering.{nat_cmp, ordering_then, is_eq}
 use Rattle.std.specs.declared.cmp.Ordering.{Ordering}
 use Rattle.std.specs.BTreeMap.{is_at}
 use Rattle.std.specs.Cmp.Lexicographic.{slice_cmp, pointwise}
@@ -85,3 +85,9 @@ pub record Puts {K X : Type 0} (cmp : K → K → Ordering) (key : K) (value : O
 -- a map that gives the same at each key
 pub record Same {K X : Type 0} (cmp : K → K → Ordering) (old new : List (K × X)) : Type 0 where
   pub each : (k : K) → at cmp new k ≡ at cmp old k
+
+-- a map in which a number goes from one key to another
+pub record Moves {K : Type 0} (cmp : K → K → Ordering) (number : ℕ) (from to : K) (old new : List (K × ℕ)) : Type 0 where
+  pub here : at cmp new to ≡ Some number
+  pub kept : (k : K) → is_eq (cmp to k) ≡ false → is_eq (cmp from k) ≡ false → at cmp new k ≡ at cmp old k
+  pub left : is_eq (cmp to from) ≡ false → at cmp new from ≡ None

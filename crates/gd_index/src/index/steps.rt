@@ -7,7 +7,7 @@ ghost use Rattle.gd_item.specs.Nodes.{live_node, child_at};
 
 use super::Index;
 use crate::row::Row;
-use crate::rows::{insert_row, remove_row};
+use crate::rows::{fill_row, insert_row, move_row, remove_row};
 use crate::spot::make_spot;
 use gd_item::{LiveItem, Version};
 use gd_names::{Bytes, NoMemory, Text};
@@ -24,6 +24,39 @@ impl Index {
         let key = make_spot(self.alloc, item.parent, &item.name)?;
         let spot = make_spot(self.alloc, item.parent, &item.name)?;
         insert_row(&mut self.rows, &mut self.names, &mut self.changes, item, key, spot)
+    }
+
+    /// Gives the item of a number another folder and another name.
+    pub fn place(
+        &mut self,
+        number: u64,
+        change: u64,
+        parent: u64,
+        name: Text,
+    ) -> Result<(), NoMemory>
+        requires fresh { All (λ (x : LiveItem). x.change ≢ change) self.old }
+        requires free { is_taken_by_other number parent name self.old ≡ false }
+        ensures ok { OnOk result (self.new ≡ changed number (with_place change parent name) self.old) }
+        ensures kept { OnErr result (self.new ≡ self.old) }
+    {
+        let key = make_spot(self.alloc, parent, &name)?;
+        let spot = make_spot(self.alloc, parent, &name)?;
+        move_row(&mut self.rows, &mut self.names, &mut self.changes, number, change, name, key, spot)
+    }
+
+    /// Gives new bytes to the item of a number, and takes out the version that stood in it.
+    pub fn overwrite(
+        &mut self,
+        number: u64,
+        change: u64,
+        bytes: Bytes,
+    ) -> Result<Option<Version>, NoMemory>
+        requires fresh { All (λ (x : LiveItem). x.change ≢ change) self.old }
+        ensures ok { OnOk result (self.new ≡ changed number (with_bytes change bytes) self.old) }
+        ensures version { IfOk result (λ version. option_to_list version ≡ version_of (live_at number self.old)) }
+        ensures kept { OnErr result (self.new ≡ self.old) }
+    {
+        fill_row(&mut self.rows, &mut self.changes, number, change, bytes)
     }
 
     /// Takes out the item of a number.
