@@ -1,13 +1,13 @@
 -- What the maps of names and of change numbers find, among the items.
 use Rattle.std.proofs.Common.{◌≡◌, ℕ, ◌≢◌, Bool, true, false, ◌&&◌, ◌||◌, cond, not, nat_eq, eqb-true, eq-eqb, List, [], ◌∷◌, map, Option, Some, None, refl, ap, sym, subst, ◌∙◌}
 use Rattle.std.specs.Cmp.Lexicographic.{pointwise}
-use Rattle.std.specs.List.{AllByRecursion, list_any, find}
+use Rattle.std.specs.List.{All, AllByRecursion, list_any, find}
 use Rattle.std.specs.List.Sorted.{IsStrictlySortedBy}
 use Rattle.std.specs.Map.{keys_of, values_of}
 use Rattle.std.specs.Option.{option_map}
 use Rattle.std.specs.Ordering.{nat_cmp}
 use Rattle.gd_names.specs.Caseless.{lower_case, equal_caseless}
-use Rattle.gd_names.proofs.Each.{each-both}
+use Rattle.gd_names.proofs.Each.{each, each-both}
 use Rattle.gd_item.specs.declared.live.LiveItem.{LiveItem}
 use Rattle.gd_item.specs.Moves.{is_taken_by_other}
 use Rattle.gd_item.specs.Nodes.{live_node, child_at}
@@ -32,11 +32,11 @@ nodes-of-rows [] = refl
 nodes-of-rows (e ∷ rows) = ap (λ nodes. live_node e.1.item ∷ nodes) (nodes-of-rows rows)
 
 -- ---- texts
-both-true : (a b : Bool) → (a && b) ≡ true → (a ≡ true) × (b ≡ true)
+pub both-true : (a b : Bool) → (a && b) ≡ true → (a ≡ true) × (b ≡ true)
 both-true true b is = (refl, is)
 both-true false b is = absurd (cc is)
 
-same-text : (a b : List ℕ) → pointwise nat_eq a b ≡ true → a ≡ b
+pub same-text : (a b : List ℕ) → pointwise nat_eq a b ≡ true → a ≡ b
 same-text [] [] is = refl
 same-text [] (y ∷ b) is = absurd (cc is)
 same-text (x ∷ a) [] is = absurd (cc is)
@@ -44,7 +44,7 @@ same-text (x ∷ a) (y ∷ b) is =
     let parts : (nat_eq x y ≡ true) × (pointwise nat_eq a b ≡ true) = both-true (nat_eq x y) (pointwise nat_eq a b) is in
     ap (λ (z : ℕ). z ∷ a) (eqb-true x y parts.0) ∙ ap (λ rest. y ∷ rest) (same-text a b parts.1)
 
-text-itself : (a : List ℕ) → pointwise nat_eq a a ≡ true
+pub text-itself : (a : List ℕ) → pointwise nat_eq a a ≡ true
 text-itself [] = refl
 text-itself (x ∷ a) = ap (λ b. b && pointwise nat_eq a a) (eq-eqb x x refl) ∙ text-itself a
 
@@ -110,3 +110,53 @@ module _ (rows : List (ℕ × Row)) (lined : Lined rows) (rises : IsStrictlySort
   -- the map of names finds the first item at a spot
   pub at-spot : (spot : ℕ × List ℕ) → index spot ≡ number_at_spot spot (items_in rows)
   at-spot spot = spot-by spot (number_at_spot spot (items_in rows)) (index spot) refl refl
+
+-- ---- keys that are free
+module _ {K : Type 0} (key : LiveItem → K) (rows : List (ℕ × Row)) (index : K → Option ℕ) (was : Indexes key (at nat_cmp rows) index) (k : K) where
+  free-by : (stands : Option ℕ) → index k ≡ stands → AllByRecursion (λ (e : ℕ × Row). key e.1.item ≢ k) rows → index k ≡ None
+  free-by None is apart = is
+  free-by (Some n) is apart =
+      let told : (row : Row) × (at nat_cmp rows n ≡ Some row) × (key row.item ≡ k) = row-by key k (at nat_cmp rows n) (was.sound k n is) in
+      absurd (found (λ (e : ℕ × Row). key e.1.item ≢ k) n told.0 rows apart told.1 told.2)
+
+  -- a key that no item has
+  pub free-key : AllByRecursion (λ (e : ℕ × Row). key e.1.item ≢ k) rows → index k ≡ None
+  free-key apart = free-by (index k) refl apart
+
+pub of-items : (P : LiveItem → Type 0) (rows : List (ℕ × Row)) → AllByRecursion P (items_in rows) → AllByRecursion (λ (e : ℕ × Row). P e.1.item) rows
+of-items P [] all = tt
+of-items P (e ∷ rows) all = (all.0, of-items P rows all.1)
+
+-- a change number that no item has
+pub fresh-change : (rows : List (ℕ × Row)) (items : List LiveItem) (index : ℕ → Option ℕ) (change : ℕ) → Indexes (λ (item : LiveItem). item.change) (at nat_cmp rows) index → items_in rows ≡ items
+    → All (λ (x : LiveItem). x.change ≢ change) items → index change ≡ None
+fresh-change rows items index change was view all =
+    let P : LiveItem → Type 0 = λ (x : LiveItem). x.change ≢ change in
+    free-key (λ (item : LiveItem). item.change) rows index was change (of-items P rows (each P (items_in rows) (subst (λ (xs : List LiveItem). All P xs) (sym view) all)))
+
+-- a spot that only one item may have
+either-false : (a b : Bool) → (a || b) ≡ false → (a ≡ false) × (b ≡ false)
+either-false true b is = absurd (cc is)
+either-false false b is = (refl, is)
+
+none-taken : (test : LiveItem → Bool) (rows : List (ℕ × Row)) → list_any test (items_in rows) ≡ false → AllByRecursion (λ (e : ℕ × Row). test e.1.item ≡ false) rows
+none-taken test [] is = tt
+none-taken test (e ∷ rows) is =
+    let parts : (test e.1.item ≡ false) × (list_any test (items_in rows) ≡ false) = either-false (test e.1.item) (list_any test (items_in rows)) is in
+    (parts.0, none-taken test rows parts.1)
+
+not-other : (a b c : Bool) → a ≡ true → c ≡ true → (a && not b && c) ≡ false → b ≡ true
+not-other true true c first second is = refl
+not-other true false c first second is = absurd (cc (second, is))
+not-other false b c first second is = absurd (cc first)
+
+pub own-spot : (rows : List (ℕ × Row)) (items : List LiveItem) (index : ℕ × List ℕ → Option ℕ) (number parent : ℕ) (name : List ℕ) → Lined rows → Indexes spot_of (at nat_cmp rows) index → items_in rows ≡ items
+    → is_taken_by_other number parent name items ≡ false → (n : ℕ) → index (parent, lower_case name) ≡ Some n → n ≡ number
+own-spot rows items index number parent name lined was view free n there =
+    let test : LiveItem → Bool = λ (item : LiveItem). nat_eq item.parent parent && not (nat_eq item.number number) && equal_caseless item.name name in
+    let told : (row : Row) × (at nat_cmp rows n ≡ Some row) × (spot_of row.item ≡ (parent, lower_case name)) = row-by spot_of (parent, lower_case name) (at nat_cmp rows n) (was.sound (parent, lower_case name) n there) in
+    let off : test told.0.item ≡ false = found (λ (e : ℕ × Row). test e.1.item ≡ false) n told.0 rows (none-taken test rows (ap (list_any test) view ∙ free)) told.1 in
+    let line : IsRow (n, told.0) = found IsRow n told.0 rows lined told.1 in
+    let here : is_at_spot (parent, lower_case name) told.0.item ≡ true = spot-same (parent, lower_case name) told.0.item told.2 in
+    let parts : (nat_eq told.0.item.parent parent ≡ true) × (equal_caseless told.0.item.name name ≡ true) = both-true (nat_eq told.0.item.parent parent) (equal_caseless told.0.item.name name) here in
+    sym line.number ∙ eqb-true told.0.item.number number (not-other (nat_eq told.0.item.parent parent) (nat_eq told.0.item.number number) (equal_caseless told.0.item.name name) parts.0 parts.1 off)

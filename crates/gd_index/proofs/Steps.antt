@@ -1,5 +1,5 @@
 -- The three maps belong together after each step.
-use Rattle.std.proofs.Common.{◌≡◌, ℕ, ◌<◌, Bool, true, false, cond, List, [], ◌∷◌, ◌++◌, Option, Some, None, refl, ap, sym, subst, ◌∙◌}
+use Rattle.std.proofs.Common.{◌≡◌, ℕ, ◌<◌, Bool, ◌⊎◌, inl, inr, true, false, ◌&&◌, nat_eq, eqb-true, eq-eqb, cond, List, [], ◌∷◌, ◌++◌, Option, Some, None, refl, ap, sym, subst, ◌∙◌}
 use Rattle.std.specs.List.{AllByRecursion, All}
 use Rattle.std.specs.List.Sorted.{IsStrictlySortedBy}
 use Rattle.std.specs.Map.{keys_of, remove_entry}
@@ -13,7 +13,9 @@ use Rattle.gd_index.specs.declared.row.Row.{Row}
 use Rattle.gd_index.specs.Indexed.{at, spot_cmp, spot_of, digest_in, items_in, IsRow, Indexes, IsIndexed, Puts, Same, Moves, placed_row, filled_row, rewritten}
 use Rattle.gd_index.proofs.Orders.{numbers, spots, never-apart, told, put-other}
 use Rattle.gd_index.proofs.Indexing.{same-index, same-rows, undone, pushed, changed-index, dropped}
-use Rattle.gd_index.proofs.Lines.{Lined, found, below-lines, none-there, one-more-item, lined-removed, rewritten-keys, rewritten-lined}
+use Rattle.std.specs.Cmp.Lexicographic.{pointwise}
+use Rattle.gd_index.proofs.Finding.{both-true, same-text, text-itself}
+use Rattle.gd_index.proofs.Lines.{none-rewritten, Lined, found, below-lines, none-there, one-more-item, lined-removed, rewritten-keys, rewritten-lined}
 
 abbrev pub change-of : LiveItem → ℕ
 change-of item = item.change
@@ -117,3 +119,51 @@ filled rows more names changes changes2 n change bytes first was stood is put fr
           (λ m there. same-one m n (sym there ∙ was.by_name.listed n first stood)) (stays n first rows names was.by_name stood);
       by_change = changed-index numbers change-of n first (filled_row change bytes first) rows more changes changes2 was.by_change stood put (λ m there. absurd (cc (fresh, there))) date;
     }
+
+-- ---- a number that goes from spot to spot
+abbrev pub same_spot : ℕ × List ℕ → ℕ × List ℕ → Bool
+same_spot a b = nat_eq a.0 b.0 && pointwise nat_eq a.1 b.1
+
+spot-is : (a b : ℕ × List ℕ) → same_spot a b ≡ true → a ≡ b
+spot-is a b is =
+    let parts : (nat_eq a.0 b.0 ≡ true) × (pointwise nat_eq a.1 b.1 ≡ true) = both-true (nat_eq a.0 b.0) (pointwise nat_eq a.1 b.1) is in
+    ap (λ (p : ℕ). (p, a.1)) (eqb-true a.0 b.0 parts.0) ∙ ap (λ (t : List ℕ). (b.0, t)) (same-text a.1 b.1 parts.1)
+
+spot-itself : (a b : ℕ × List ℕ) → a ≡ b → same_spot a b ≡ true
+spot-itself a b is = subst (λ (s : ℕ × List ℕ). same_spot a s ≡ true) is (ap (λ b. b && pointwise nat_eq a.1 a.1) (eq-eqb a.0 a.0 refl) ∙ text-itself a.1)
+
+pub spot-stays : (n : ℕ) (from to : ℕ × List ℕ) (old new : List ((ℕ × List ℕ) × ℕ)) → same_spot from to ≡ true → Puts spot_cmp to (Some n) old new → Moves spot_cmp n from to old new
+spot-stays n from to old new is put = record {
+  here = put.here;
+  kept = λ k apart far. put-other spots to k (Some n) old new put apart;
+  left = λ apart. absurd (never-apart spots to from (sym (spot-is from to is)) apart);
+}
+
+apart-by : (from to : ℕ × List ℕ) → same_spot from to ≡ false → (from ≡ to) ⊎ (is_eq (spot_cmp from to) ≡ false) → is_eq (spot_cmp from to) ≡ false
+apart-by from to is (inl same) = absurd (let on : same_spot from to ≡ true = spot-itself from to same in cc)
+apart-by from to is (inr apart) = apart
+
+pub spot-goes : (n : ℕ) (from to : ℕ × List ℕ) (old mid new : List ((ℕ × List ℕ) × ℕ)) → same_spot from to ≡ false → Puts spot_cmp to (Some n) old mid → Puts spot_cmp from None mid new
+    → Moves spot_cmp n from to old new
+spot-goes n from to old mid new is put gone = record {
+  here = put-other spots from to None mid new gone (apart-by from to is (told spots from to)) ∙ put.here;
+  kept = λ k apart far. put-other spots from k None mid new gone far ∙ put-other spots to k (Some n) old mid put apart;
+  left = λ apart. gone.here;
+}
+
+-- nothing changed
+pub same-filled : (rows more : List (ℕ × Row)) (names : List ((ℕ × List ℕ) × ℕ)) (changes changes2 : List (ℕ × ℕ)) → IsIndexed rows names changes → more ≡ rows → Same nat_cmp changes changes2 → IsIndexed more names changes2
+same-filled rows more names changes changes2 was same dates =
+    subst (λ (es : List (ℕ × Row)). IsIndexed es names changes2) (sym same)
+    (record { lined = was.lined; rises = was.rises; by_name = was.by_name; by_change = same-index numbers change-of (at nat_cmp rows) changes changes2 was.by_change dates })
+
+-- the row may be there or not
+pub filled-by : (stands : Option Row) (rows more : List (ℕ × Row)) (names : List ((ℕ × List ℕ) × ℕ)) (changes changes2 : List (ℕ × ℕ)) (n change : ℕ) (bytes : List ℕ) → IsIndexed rows names changes
+    → at nat_cmp rows n ≡ stands → more ≡ rewritten n (filled_row change bytes) rows → at nat_cmp changes change ≡ None
+    → ((row : Row) → at nat_cmp rows n ≡ Some row → Puts nat_cmp n (Some (filled_row change bytes row)) rows more × Moves nat_cmp n row.item.change change changes changes2)
+    → (at nat_cmp rows n ≡ None → changes2 ≡ changes) → IsIndexed more names changes2
+filled-by None rows more names changes changes2 n change bytes was is put fresh there none =
+    subst (λ (cs : List (ℕ × ℕ)). IsIndexed more names cs) (sym (none is))
+    (subst (λ (es : List (ℕ × Row)). IsIndexed es names changes) (sym (put ∙ none-rewritten n (filled_row change bytes) rows is)) was)
+filled-by (Some row) rows more names changes changes2 n change bytes was is put fresh there none =
+    filled rows more names changes changes2 n change bytes row was is put (there row is).0 fresh (there row is).1

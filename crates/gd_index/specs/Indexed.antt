@@ -1,8 +1,10 @@
 -- Items in three maps: by number, each beside the digest of its bytes; the numbers by folder and name in lower case;
 -- the numbers by change number.
-use Rattle.std.specs.Prelude.{◌≡◌, ℕ, Bool, false, ◌&&◌, cond, List, [], ◌∷◌, map, find, nat_eq, Option, Some, None}
+use Rattle.std.specs.Prelude.{◌≡◌, ℕ, ◌+◌, ◌-◌, ◌^◌, Bool, false, ◌&&◌, cond, List, [], ◌∷◌, map, find, nat_eq, Option, Some, None}
 use Rattle.std.specs.List.{AllByRecursion}
 use Rattle.std.specs.List.Sorted.{IsStrictlySortedBy}
+use Rattle.std.specs.declared.ops.Bound.{Bound}
+use Rattle.std.specs.declared.ops.Bound.TheVariants.{Included, Excluded, Unbounded}
 use Rattle.std.specs.Map.{lookup, keys_of}
 use Rattle.std.specs.Option.{option_map}
 use Rattle.std.specs.Ordering.{nat_cmp, ordering_then, is_eq}
@@ -91,3 +93,20 @@ pub record Moves {K : Type 0} (cmp : K → K → Ordering) (number : ℕ) (from 
   pub here : at cmp new to ≡ Some number
   pub kept : (k : K) → is_eq (cmp to k) ≡ false → is_eq (cmp from k) ≡ false → at cmp new k ≡ at cmp old k
   pub left : is_eq (cmp to from) ≡ false → at cmp new from ≡ None
+
+-- the items that stand at these numbers
+abbrev pub item_and : Option Row → List LiveItem → List LiveItem
+item_and None items = items
+item_and (Some row) items = row.item ∷ items
+
+abbrev pub items_at : List (ℕ × Row) → List ℕ → List LiveItem
+items_at rows [] = []
+items_at rows (number ∷ numbers) = item_and (at nat_cmp rows number) (items_at rows numbers)
+
+-- where the names of a folder begin that come after another one, and where they end
+abbrev pub children_start : ℕ → Option (List ℕ) → Bound (ℕ × List ℕ)
+children_start parent None = Included (parent, [])
+children_start parent (Some name) = Excluded (parent, lower_case name)
+
+abbrev pub children_end : ℕ → Bound (ℕ × List ℕ)
+children_end parent = cond (nat_eq parent (2 ^ 64 - 1)) Unbounded (Excluded (parent + 1, []))

@@ -56,7 +56,8 @@ impl Index {
         ensures version { IfOk result (λ version. option_to_list version ≡ version_of (live_at number self.old)) }
         ensures kept { OnErr result (self.new ≡ self.old) }
     {
-        fill_row(&mut self.rows, &mut self.changes, number, change, bytes)
+        let version = fill_row(&mut self.rows, &mut self.changes, number, change, bytes)?;
+        Ok(version)
     }
 
     /// Takes out the item of a number.
