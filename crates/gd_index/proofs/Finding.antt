@@ -85,7 +85,7 @@ none-passes test (e ∷ rows) none = none-if (test e.1.item) test e rows refl (n
 
 -- the row of which a map tells
 module _ {K : Type 0} (key : LiveItem → K) (k : K) where
-  row-by : (found : Option Row) → option_map (λ (row : Row). key row.item) found ≡ Some k → (row : Row) × (found ≡ Some row) × (key row.item ≡ k)
+  pub row-by : (found : Option Row) → option_map (λ (row : Row). key row.item) found ≡ Some k → (row : Row) × (found ≡ Some row) × (key row.item ≡ k)
   row-by None is = absurd (cc is)
   row-by (Some row) is = let same : key row.item ≡ k = cc in (row, refl, same)
 

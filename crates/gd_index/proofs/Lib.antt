@@ -2,4 +2,6 @@ pub mod Finding
 pub mod Indexing
 pub mod Lines
 pub mod Orders
+pub mod Ranging
+pub mod Sorting
 pub mod Steps

@@ -155,9 +155,9 @@ removed-if : (b : Bool) (n : ℕ) (e : ℕ × Row) (rows : List (ℕ × Row)) �
 removed-if true n e rows is lined rises rest =
     let same : e.0 ≡ n = eqb-true e.0 n is in
     sym (
-      ap (λ (k : ℕ). cond (not (nat_eq k n)) (e.1.item ∷ others n (items_in rows)) (others n (items_in rows))) lined.0.number
-      ∙ ap (λ b. cond (not b) (e.1.item ∷ others n (items_in rows)) (others n (items_in rows))) is
-      ∙ all-others n rows lined.1 (subst (λ (k : ℕ). AllByRecursion (λ (f : ℕ × Row). k < f.0) rows) same rises.0))
+    ap (λ (k : ℕ). cond (not (nat_eq k n)) (e.1.item ∷ others n (items_in rows)) (others n (items_in rows))) lined.0.number
+    ∙ ap (λ b. cond (not b) (e.1.item ∷ others n (items_in rows)) (others n (items_in rows))) is
+    ∙ all-others n rows lined.1 (subst (λ (k : ℕ). AllByRecursion (λ (f : ℕ × Row). k < f.0) rows) same rises.0))
 removed-if false n e rows is lined rises rest = ap (λ items. e.1.item ∷ items) rest ∙ sym (other-item n e rows lined.0 is)
 
 removed-items-up : (n : ℕ) (rows : List (ℕ × Row)) → Lined rows → Up rows → items_in (remove_entry (is_at (nat_cmp n)) rows) ≡ others n (items_in rows)

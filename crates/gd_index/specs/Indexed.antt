@@ -1,10 +1,10 @@
 -- Items in three maps: by number, each beside the digest of its bytes; the numbers by folder and name in lower case;
 -- the numbers by change number.
-use Rattle.std.specs.Prelude.{◌≡◌, ℕ, ◌+◌, ◌-◌, ◌^◌, Bool, false, ◌&&◌, cond, List, [], ◌∷◌, map, find, nat_eq, Option, Some, None}
+use Rattle.std.specs.Prelude.{◌≡◌, ℕ, Bool, false, ◌&&◌, cond, List, [], ◌∷◌, map, find, nat_eq, Option, Some, None}
 use Rattle.std.specs.List.{AllByRecursion}
 use Rattle.std.specs.List.Sorted.{IsStrictlySortedBy}
 use Rattle.std.specs.declared.ops.Bound.{Bound}
-use Rattle.std.specs.declared.ops.Bound.TheVariants.{Included, Excluded, Unbounded}
+use Rattle.std.specs.declared.ops.Bound.TheVariants.{Included, Excluded}
 use Rattle.std.specs.Map.{lookup, keys_of}
 use Rattle.std.specs.Option.{option_map}
 use Rattle.std.specs.Ordering.{nat_cmp, ordering_then, is_eq}
@@ -103,10 +103,11 @@ abbrev pub items_at : List (ℕ × Row) → List ℕ → List LiveItem
 items_at rows [] = []
 items_at rows (number ∷ numbers) = item_and (at nat_cmp rows number) (items_at rows numbers)
 
--- where the names of a folder begin that come after another one, and where they end
+-- where the names of a folder begin that come after another one, and how far entries are those of one folder
 abbrev pub children_start : ℕ → Option (List ℕ) → Bound (ℕ × List ℕ)
 children_start parent None = Included (parent, [])
 children_start parent (Some name) = Excluded (parent, lower_case name)
 
-abbrev pub children_end : ℕ → Bound (ℕ × List ℕ)
-children_end parent = cond (nat_eq parent (2 ^ 64 - 1)) Unbounded (Excluded (parent + 1, []))
+abbrev pub while_in : ℕ → List ((ℕ × List ℕ) × ℕ) → List ((ℕ × List ℕ) × ℕ)
+while_in parent [] = []
+while_in parent (e ∷ entries) = cond (nat_eq e.0.0 parent) (e ∷ while_in parent entries) []

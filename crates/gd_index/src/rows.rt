@@ -100,7 +100,11 @@ pub fn remove_row(
     match rows.remove(&number) {
         None => None,
         Some(row) => {
-            let Row { item, spot, digest: _ } = row;
+            let Row {
+                item,
+                spot,
+                digest: _,
+            } = row;
             drop_keys(names, changes, &spot, item.change);
             Some(item)
         }
@@ -135,13 +139,7 @@ fn change_keys(
 }
 
 /// Gives the row of a number another place.
-fn place_row(
-    rows: &mut BTreeMap<u64, Row>,
-    number: u64,
-    change: u64,
-    name: Text,
-    spot: Spot,
-)
+fn place_row(rows: &mut BTreeMap<u64, Row>, number: u64, change: u64, name: Text, spot: Spot)
     requires { spot.1 ≡ lower_case name }
     ensures rows { rows.new.entries ≡ rewritten number (placed_row change spot.0 name) rows.old.entries }
     ensures row { (row : Row) → at nat_cmp rows.old.entries number ≡ Some row
@@ -181,7 +179,15 @@ pub fn move_row(
     let Some(row) = rows.get(&number) else {
         return Ok(());
     };
-    change_keys(names, changes, &row.spot, row.item.change, key, change, number)?;
+    change_keys(
+        names,
+        changes,
+        &row.spot,
+        row.item.change,
+        key,
+        change,
+        number,
+    )?;
     place_row(rows, number, change, name, spot);
     Ok(())
 }

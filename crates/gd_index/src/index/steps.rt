@@ -23,7 +23,14 @@ impl Index {
     {
         let key = make_spot(self.alloc, item.parent, &item.name)?;
         let spot = make_spot(self.alloc, item.parent, &item.name)?;
-        insert_row(&mut self.rows, &mut self.names, &mut self.changes, item, key, spot)
+        insert_row(
+            &mut self.rows,
+            &mut self.names,
+            &mut self.changes,
+            item,
+            key,
+            spot,
+        )
     }
 
     /// Gives the item of a number another folder and another name.
@@ -41,7 +48,16 @@ impl Index {
     {
         let key = make_spot(self.alloc, parent, &name)?;
         let spot = make_spot(self.alloc, parent, &name)?;
-        move_row(&mut self.rows, &mut self.names, &mut self.changes, number, change, name, key, spot)
+        move_row(
+            &mut self.rows,
+            &mut self.names,
+            &mut self.changes,
+            number,
+            change,
+            name,
+            key,
+            spot,
+        )
     }
 
     /// Gives new bytes to the item of a number, and takes out the version that stood in it.
