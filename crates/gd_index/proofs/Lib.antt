@@ -1,6 +1,7 @@
 pub mod Finding
 pub mod Indexing
 pub mod Lines
+pub mod Naming
 pub mod Orders
 pub mod Ranging
 pub mod Sorting

@@ -4,6 +4,7 @@ ghost use Rattle.gd_item.specs.Inventory.{live_at};
 ghost use Rattle.gd_item.specs.Nodes.{live_node, child_at};
 ghost use Rattle.gd_index.specs.Indexed.{digest_of_live, items_in, number_at_spot};
 
+mod naming;
 mod ranges;
 mod steps;
 
