@@ -1,4 +1,4 @@
-ghost use Rattle.std.specs.Prelude.{◌≡◌, ◌++◌, [], List, map, take, IfOk, OnOk};
+ghost use Rattle.std.specs.Prelude.{◌≡◌, ◌++◌, [], List, length, map, take, IfOk, OnOk};
 ghost use Rattle.std.specs.Map.{values_of};
 ghost use Rattle.std.specs.Option.{option_copied, option_map};
 ghost use Rattle.std.specs.declared.ops.Bound.{Bound};
@@ -6,6 +6,7 @@ ghost use Rattle.std.specs.BTreeMap.{IsOrdered};
 ghost use Rattle.std.specs.BTreeMap.Range.{entries_between};
 ghost use Rattle.std.specs.Ordering.{nat_cmp};
 ghost use Rattle.gd_names.specs.Caseless.{lower_case};
+ghost use Rattle.gd_item.specs.Records.{child_count};
 ghost use Rattle.gd_item.specs.Children.{children_past};
 ghost use Rattle.gd_item.specs.declared.live.LiveItem.{LiveItem};
 ghost use Rattle.gd_index.specs.Dated.{changed_past};
@@ -30,6 +31,14 @@ impl Index {
         Ok(items)
     }
 
+    /// How many items stand in a folder.
+    pub fn child_count(&self, parent: u64) -> u64
+        ensures { result ≡ child_count parent self.now }
+    {
+        let start = first_spot(self.alloc, parent);
+        count_from(&self.names, parent, Bound::Included(start))
+    }
+
     /// The first children of a folder whose names come after another one, in order of their names in lower case.
     pub fn children(
         &self,
@@ -44,6 +53,22 @@ impl Index {
         let items = items_of(self.alloc, &self.rows, numbers.as_slice())?;
         Ok(items)
     }
+}
+
+/// How many entries stand for a folder from a spot on.
+fn count_from(names: &BTreeMap<Spot, u64>, parent: u64, start: Bound<Spot>) -> u64
+    ensures count { result ≡ length (while_in parent (entries_between spot_cmp start Bound.Unbounded names.now.entries)) }
+    ensures ordered { IsOrdered spot_cmp names.now }
+{
+    let range = names.range((start, Bound::Unbounded));
+    let mut count = 0;
+    for (spot, _) in range {
+        if spot.0 != parent {
+            return count;
+        }
+        count += 1;
+    }
+    count
 }
 
 /// The numbers past a change number, in order of change.
@@ -89,12 +114,19 @@ fn numbers_from(
     Ok(numbers)
 }
 
+/// The first spot of a folder.
+fn first_spot(alloc: Global, parent: u64) -> Spot
+    ensures { result ≡ (parent, []) }
+{
+    (parent, Text::from_string(String::new(alloc)))
+}
+
 /// Where the names of a folder begin that come after another one.
 fn start_of(alloc: Global, parent: u64, earlier: Option<&Text>) -> Result<Bound<Spot>, NoMemory>
     ensures { IfOk result (λ start. start ≡ children_start parent (option_copied earlier.entry)) }
 {
     match earlier {
-        None => Ok(Bound::Included((parent, Text::from_string(String::new(alloc))))),
+        None => Ok(Bound::Included(first_spot(alloc, parent))),
         Some(name) => {
             let spot = make_spot(alloc, parent, name)?;
             Ok(Bound::Excluded(spot))
