@@ -12,7 +12,7 @@ use Rattle.gd_item.specs.declared.live.LiveItem.{LiveItem}
 use Rattle.gd_item.specs.Moves.{is_taken_by_other}
 use Rattle.gd_item.specs.Nodes.{live_node, child_at}
 use Rattle.gd_index.specs.declared.row.Row.{Row}
-use Rattle.gd_index.specs.Indexed.{at, spot_of, spot_cmp, is_at_spot, number_at_spot, items_in, Indexes, IsRow}
+use Rattle.gd_index.specs.Indexed.{at, spot_of, is_at_spot, number_at_spot, items_in, Indexes, IsRow}
 use Rattle.gd_index.proofs.Lines.{Lined, found, all-found}
 
 -- ---- a child is what stands at a spot

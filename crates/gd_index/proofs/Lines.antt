@@ -1,21 +1,21 @@
 -- Rows and their items, place by place.
-use Rattle.std.proofs.Common.{◌≡◌, ℕ, ◌<◌, ◌⊎◌, inl, inr, Bool, true, false, ◌&&◌, ◌||◌, cond, not, nat_eq, eqb-true, eq-eqb, List, [], ◌∷◌, ◌++◌, map, filter, Option, Some, None, refl, ap, sym, subst, ◌∙◌, arith}
+use Rattle.std.proofs.Common.{◌≡◌, ℕ, ◌<◌, ◌⊎◌, inl, inr, Bool, true, false, cond, not, nat_eq, eqb-true, eq-eqb, List, [], ◌∷◌, ◌++◌, filter, Option, Some, None, refl, ap, sym, subst, ◌∙◌, arith}
 use Rattle.std.proofs.lemmas.Bool.{ne_eqb}
 use Rattle.std.proofs.lemmas.Cmp.{ranked}
 use Rattle.std.proofs.lemmas.Map.Keys.{sorted_head, sorted_tail}
-use Rattle.std.specs.List.{AllByRecursion, list_any}
+use Rattle.std.specs.List.{AllByRecursion}
 use Rattle.std.specs.List.Sorted.{IsStrictlySortedBy}
 use Rattle.std.specs.Map.{lookup, remove_entry, set_value, keys_of}
 use Rattle.std.specs.Option.{option_map}
 use Rattle.std.specs.Ordering.{nat_cmp, is_eq}
 use Rattle.std.specs.BTreeMap.{is_at}
-use Rattle.std.specs.declared.cmp.Ordering.TheVariants.{Less, Equal, Greater}
-use Rattle.gd_names.proofs.Each.{each-so, each-append}
+use Rattle.std.specs.declared.cmp.Ordering.TheVariants.{Less}
+use Rattle.gd_names.proofs.Each.{each-so}
 use Rattle.gd_names.proofs.Maps.{look, looked-up, look-first, Up}
 use Rattle.gd_item.specs.declared.live.LiveItem.{LiveItem}
 use Rattle.gd_item.specs.Inventory.{live_at, changed}
 use Rattle.gd_index.specs.declared.row.Row.{Row}
-use Rattle.gd_index.specs.Indexed.{at, IsRow, items_in, rewritten, digest_in, digest_of_live}
+use Rattle.gd_index.specs.Indexed.{at, IsRow, items_in, rewritten, digest_of_live}
 use Rattle.gd_index.proofs.Orders.{numbers, told, never-apart}
 
 abbrev pub Lined : List (ℕ × Row) → Type 0

@@ -1,5 +1,5 @@
 -- What the index of names and that of change numbers give in order.
-use Rattle.std.proofs.Common.{◌≡◌, ℕ, ◌+◌, ◌<◌, ◌≤◌, inl, inr, drop, length, get_or, append_assoc, Bool, true, false, ◌&&◌, not, cond, nat_eq, nat_lt, eqb-true, eq-eqb, List, [], ◌∷◌, ◌++◌, take, map, filter, Option, Some, None, refl, ap, sym, subst, ◌∙◌, arith}
+use Rattle.std.proofs.Common.{◌≡◌, ℕ, ◌+◌, ◌<◌, ◌≤◌, inl, inr, drop, length, get_or, append_assoc, Bool, true, false, ◌&&◌, cond, nat_eq, nat_lt, eqb-true, eq-eqb, List, [], ◌∷◌, ◌++◌, take, map, filter, Option, Some, None, refl, ap, sym, ◌∙◌, arith}
 use Rattle.std.specs.BTreeMap.{insert_entry}
 use Rattle.std.specs.List.{AllByRecursion}
 use Rattle.std.specs.Cmp.Lexicographic.{slice_cmp}
@@ -16,13 +16,13 @@ use Rattle.std.specs.BTreeMap.Range.{entries_between, range_contains}
 use Rattle.std.specs.List.Sorted.{IsStrictlySortedBy}
 use Rattle.std.specs.Map.{keys_of, values_of}
 use Rattle.std.specs.Ordering.{nat_cmp, is_lt, is_le, is_gt, ordering_then, match_ordering}
-use Rattle.std.specs.declared.ops.Bound.TheVariants.{Included, Excluded, Unbounded}
+use Rattle.std.specs.declared.ops.Bound.TheVariants.{Excluded, Unbounded}
 use Rattle.gd_item.specs.Records.{child_count}
 use Rattle.gd_item.specs.Children.{is_past, in_name_order_from, children_past}
 use Rattle.gd_item.specs.declared.live.LiveItem.{LiveItem}
 use Rattle.gd_index.specs.declared.row.Row.{Row}
 use Rattle.gd_index.specs.Dated.{in_date_order_from, changed_past}
-use Rattle.gd_index.specs.Indexed.{at, spot_cmp, spot_of, children_start, while_in, items_in, items_at, item_and, Indexes, IsIndexed}
+use Rattle.gd_index.specs.Indexed.{at, spot_cmp, spot_of, children_start, while_in, items_in, items_at, item_and, IsIndexed}
 use Rattle.gd_index.proofs.Orders.{numbers, spots}
 use Rattle.gd_index.proofs.Sorting.{each-kept, sorted_from, first-in-order, as-many}
 

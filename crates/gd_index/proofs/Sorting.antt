@@ -1,23 +1,23 @@
 -- Items that are put in order of a key one by one stand as an index by that key has them.
-use Rattle.std.proofs.Common.{◌≡◌, ℕ, ◌<◌, zero, suc, inl, inr, Bool, true, false, ◌&&◌, cond, List, [], ◌∷◌, ◌++◌, ◌+◌, length, take, map, filter, Option, Some, None, refl, ap, sym, subst, ◌∙◌, arith}
+use Rattle.std.proofs.Common.{◌≡◌, ℕ, ◌<◌, zero, suc, inl, inr, Bool, true, false, ◌&&◌, cond, List, [], ◌∷◌, ◌+◌, length, take, filter, Option, Some, None, refl, ap, sym, subst, ◌∙◌, arith}
 use Rattle.std.specs.Prelude.{T}
-use Rattle.std.specs.BTreeMap.{insert_entry, is_at}
+use Rattle.std.specs.BTreeMap.{insert_entry}
 use Rattle.std.specs.FinMap.Entries.{put, find, by_order, below_all, is_sorted, where_key, is_sorted-where_key, find-where_key, is_sorted-put, find-put, length-put, same_entries}
 use Rattle.std.specs.List.{AllByRecursion}
 use Rattle.std.specs.List.Sorted.{IsStrictlySortedBy}
 use Rattle.std.specs.Map.{keys_of, values_of}
-use Rattle.std.specs.Option.{option_map, is_some}
+use Rattle.std.specs.Option.{is_some}
 use Rattle.std.specs.Ordering.{nat_cmp, is_eq, is_lt, ordering_reverse, match_ordering}
 use Rattle.std.specs.declared.cmp.Ordering.{Ordering}
 use Rattle.std.specs.declared.cmp.Ordering.TheVariants.{Less, Equal, Greater}
 use Rattle.std.proofs.lemmas.Cmp.{tied_itself}
 use Rattle.std.proofs.lemmas.Map.Keys.{sorted_head, sorted_tail}
-use Rattle.gd_names.proofs.Each.{each-so, each-both}
+use Rattle.gd_names.proofs.Each.{each-so}
 use Rattle.gd_names.proofs.Maps.{Up}
 use Rattle.gd_item.specs.declared.live.LiveItem.{LiveItem}
 use Rattle.gd_index.specs.declared.row.Row.{Row}
-use Rattle.gd_index.specs.Indexed.{at, IsRow, Indexes, items_in, items_at, item_and}
-use Rattle.gd_index.proofs.Orders.{IsOrder, told, never-apart}
+use Rattle.gd_index.specs.Indexed.{at, Indexes, items_in, items_at, item_and}
+use Rattle.gd_index.proofs.Orders.{IsOrder, told}
 use Rattle.gd_index.proofs.Finding.{row-by}
 use Rattle.gd_index.proofs.Lines.{Lined, found, all-found, up, item-of}
 

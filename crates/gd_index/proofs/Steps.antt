@@ -1,5 +1,5 @@
 -- The three maps belong together after each step.
-use Rattle.std.proofs.Common.{◌≡◌, ℕ, ◌<◌, Bool, ◌⊎◌, inl, inr, true, false, ◌&&◌, nat_eq, eqb-true, eq-eqb, cond, List, [], ◌∷◌, ◌++◌, Option, Some, None, refl, ap, sym, subst, ◌∙◌}
+use Rattle.std.proofs.Common.{◌≡◌, ℕ, ◌<◌, Bool, ◌⊎◌, inl, inr, true, false, ◌&&◌, nat_eq, eqb-true, eq-eqb, List, [], ◌∷◌, ◌++◌, Option, Some, None, refl, ap, sym, subst, ◌∙◌}
 use Rattle.std.specs.List.{AllByRecursion, All}
 use Rattle.std.specs.List.Sorted.{IsStrictlySortedBy}
 use Rattle.std.specs.Map.{keys_of, remove_entry}
@@ -12,7 +12,7 @@ use Rattle.gd_item.specs.declared.live.LiveItem.{LiveItem}
 use Rattle.gd_index.specs.declared.row.Row.{Row}
 use Rattle.gd_index.specs.Indexed.{at, spot_cmp, spot_of, digest_in, items_in, IsRow, Indexes, IsIndexed, Puts, Same, Moves, placed_row, filled_row, rewritten}
 use Rattle.gd_index.proofs.Orders.{numbers, spots, never-apart, told, put-other}
-use Rattle.gd_index.proofs.Indexing.{same-index, same-rows, undone, pushed, changed-index, dropped}
+use Rattle.gd_index.proofs.Indexing.{same-index, undone, pushed, changed-index, dropped}
 use Rattle.std.specs.Cmp.Lexicographic.{pointwise}
 use Rattle.gd_index.proofs.Finding.{both-true, same-text, text-itself}
 use Rattle.gd_index.proofs.Lines.{none-rewritten, Lined, found, below-lines, none-there, one-more-item, lined-removed, rewritten-keys, rewritten-lined}

@@ -1,5 +1,4 @@
-use Rattle.std.proofs.Common.{◌≡◌, List, [], map, ℕ}
-use Rattle.gd_item.specs.declared.live.LiveItem.{LiveItem}
+use Rattle.std.proofs.Common.{◌≡◌, map}
 use Rattle.gd_item.specs.Nodes.{live_node, child_at}
 use Rattle.gd_index.specs.declared.row.Row.{Row}
 use Rattle.gd_index.specs.Indexed.{items_in}

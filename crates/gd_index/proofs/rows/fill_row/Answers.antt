@@ -1,4 +1,4 @@
-use Rattle.std.proofs.Common.{◌≡◌, None, ap, sym, refl, ◌∙◌}
+use Rattle.std.proofs.Common.{None, ap, sym, refl}
 use Rattle.gd_item.specs.Inventory.{version_of}
 use Rattle.gd_index.specs.Indexed.{items_in, filled_row}
 use Rattle.gd_index.proofs.Lines.{got, none-rewritten}

@@ -1,7 +1,6 @@
-use Rattle.std.proofs.Common.{◌≡◌, ℕ, List, Some, None, ap, sym, subst, ◌∙◌}
-use Rattle.std.specs.Ordering.{nat_cmp}
+use Rattle.std.proofs.Common.{◌≡◌, ℕ, List, Some, None, ap, subst, ◌∙◌}
 use Rattle.gd_index.specs.declared.row.Row.{Row}
-use Rattle.gd_index.specs.Indexed.{Puts, spot_cmp, spot_of, digest_in}
+use Rattle.gd_index.specs.Indexed.{Puts, spot_cmp, spot_of}
 use Rattle.gd_index.proofs.Steps.{inserted, inserted-items, put-back}
 use Rattle.gd_index.proofs.rows.insert_row.Goals as goal
 

@@ -1,5 +1,4 @@
-use Rattle.std.proofs.Common.{◌≡◌, ℕ, List, Some, None, refl, ap, sym, subst, ◌∙◌}
-use Rattle.std.specs.Ordering.{nat_cmp}
+use Rattle.std.proofs.Common.{◌≡◌, ℕ, List, refl, ap, sym, subst, ◌∙◌}
 use Rattle.gd_names.specs.Caseless.{lower_case}
 use Rattle.gd_item.specs.Inventory.{with_place}
 use Rattle.gd_index.specs.Indexed.{at, spot_cmp, Moves, items_in, placed_row}

@@ -1,4 +1,4 @@
-use Rattle.std.proofs.Common.{◌≡◌, ℕ, List, ap, sym, refl, ◌∙◌}
+use Rattle.std.proofs.Common.{◌≡◌, ℕ, List, ap, sym, ◌∙◌}
 use Rattle.gd_names.specs.Caseless.{lower_case}
 use Rattle.gd_item.specs.Inventory.{with_place}
 use Rattle.gd_index.specs.declared.row.Row.{Row}

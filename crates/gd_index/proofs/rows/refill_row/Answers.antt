@@ -1,6 +1,5 @@
-use Rattle.std.proofs.Common.{◌≡◌, ℕ, List, None, Some, ap, sym, subst, refl, ◌∙◌}
+use Rattle.std.proofs.Common.{None, Some, ap, sym, refl, ◌∙◌}
 use Rattle.gd_item.specs.Inventory.{version_of}
-use Rattle.gd_index.specs.declared.row.Row.{Row}
 use Rattle.gd_index.specs.Indexed.{items_in, filled_row}
 use Rattle.gd_index.proofs.Lines.{got, none-rewritten, set-rewritten}
 use Rattle.gd_index.proofs.rows.refill_row.Goals as goal

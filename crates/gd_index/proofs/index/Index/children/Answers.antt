@@ -1,4 +1,4 @@
-use Rattle.std.proofs.Common.{◌≡◌, List, ℕ, Bor, map, take, ap, ◌∙◌}
+use Rattle.std.proofs.Common.{List, ℕ, Bor, map, take, ap, ◌∙◌}
 use Rattle.std.specs.Map.{values_of}
 use Rattle.std.specs.Option.{option_copied}
 use Rattle.std.specs.declared.ops.Bound.{Bound}

@@ -1,4 +1,4 @@
-use Rattle.std.proofs.Common.{◌≡◌, ◌+◌, ◌≤◌, not, ap, ◌∙◌, arith}
+use Rattle.std.proofs.Common.{◌+◌, not, ap, ◌∙◌, arith}
 use Rattle.gd_index.proofs.Naming.{free-here, taken-next, last-name}
 use Rattle.gd_index.proofs.index.Index.first_free.Goals as goal
 

@@ -1,4 +1,4 @@
-use Rattle.std.proofs.Common.{◌+◌, length}
+use Rattle.std.proofs.Common.{◌+◌}
 use Rattle.gd_index.proofs.Naming.{AllTaken}
 use Rattle.gd_index.proofs.index.Index.first_free.Given as goal
 

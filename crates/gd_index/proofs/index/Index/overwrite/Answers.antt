@@ -1,4 +1,4 @@
-use Rattle.std.proofs.Common.{◌≡◌, refl, ap, sym, ◌∙◌}
+use Rattle.std.proofs.Common.{refl, ap, ◌∙◌}
 use Rattle.std.specs.Ordering.{nat_cmp}
 use Rattle.gd_index.specs.Indexed.{at, items_in, filled_row}
 use Rattle.gd_item.specs.Inventory.{changed, with_bytes}

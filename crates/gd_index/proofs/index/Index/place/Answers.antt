@@ -1,4 +1,4 @@
-use Rattle.std.proofs.Common.{◌≡◌, ap, sym, ◌∙◌}
+use Rattle.std.proofs.Common.{ap, sym, ◌∙◌}
 use Rattle.std.specs.Ordering.{nat_cmp}
 use Rattle.gd_index.specs.Indexed.{at, spot_cmp}
 use Rattle.gd_index.proofs.Finding.{own-spot, fresh-change}

@@ -1,6 +1,5 @@
-use Rattle.std.proofs.Common.{◌≡◌, ap, sym, ◌∙◌}
+use Rattle.std.proofs.Common.{ap, sym, ◌∙◌}
 use Rattle.std.specs.Ordering.{nat_cmp}
-use Rattle.gd_names.specs.Caseless.{lower_case}
 use Rattle.gd_index.specs.Indexed.{at, spot_cmp, spot_of, number_at_spot}
 use Rattle.gd_index.proofs.Finding.{at-spot, child-spot, fresh-change}
 use Rattle.gd_index.proofs.index.Index.push.Goals as goal

@@ -1,4 +1,4 @@
-use Rattle.std.proofs.Common.{◌≡◌, List, ◌++◌, map, drop}
+use Rattle.std.proofs.Common.{◌≡◌, ◌++◌, map, drop}
 use Rattle.gd_index.specs.Indexed.{items_at}
 use Rattle.gd_index.proofs.index.ranges.items_of.Given as goal
 

@@ -1,9 +1,8 @@
-use Rattle.std.proofs.Common.{◌≡◌, ◌≤◌, List, ◌++◌, length}
+use Rattle.std.proofs.Common.{◌≡◌, ◌≤◌, ◌++◌, length}
 use Rattle.std.specs.Map.{values_of}
 use Rattle.std.specs.Ordering.{nat_cmp}
 use Rattle.std.specs.declared.ops.Bound.TheVariants.{Excluded, Unbounded}
 use Rattle.std.specs.BTreeMap.Range.{entries_between}
-use Rattle.gd_index.specs.Indexed.{spot_cmp}
 use Rattle.gd_index.proofs.index.ranges.numbers_after.Given as goal
 
 abbrev pub invariant-loop-number : goal.invariant-loop-number
