@@ -1,18 +1,17 @@
 -- What a token asks for is answered.
 use Rattle.std.proofs.Common.{◌≡◌, ℕ, List, [], ◌++◌, Option, Some, None, Ok, Err, cond, refl, sym, ap, ◌∙◌, subst, inl, inr, append-nil}
-use Rattle.gd_item.specs.Answers.{delta_reply, reply_to, refused}
+use Rattle.gd_item.specs.Answers.{delta_reply}
 use Rattle.gd_item.specs.Inventory.{Effect}
 use Rattle.gd_item.specs.Pages.{Asked, Past, Latest, Bad, Lost, asked, is_bad, page_past, latest_page}
-use Rattle.gd_item.specs.Refused.{Refusal, refuse, refusal}
+use Rattle.gd_item.specs.Refused.{refuse}
 use Rattle.gd_item.specs.Sessions.{State}
-use Rattle.gd_item.specs.Steps.{state_of, after_request, effects_of}
+use Rattle.gd_item.specs.Steps.{state_of, after_request}
 use Rattle.gd_item.specs.declared.fault.ErrorCode.TheVariants.{InvalidRequest}
 use Rattle.gd_item.specs.declared.reply.Reply.{Reply}
 use Rattle.gd_item.specs.declared.request.Request.{Request}
 use Rattle.gd_item.specs.declared.request.Request.TheVariants.{Delta}
 use Rattle.gd_item.specs.declared.step.Step.{Step}
 use Rattle.gd_item.specs.declared.step.Who.{Who}
-use Rattle.gd_item.specs.declared.step.Who.TheVariants.{Own}
 use Rattle.gd_item.specs.declared.reply.Page.{Page}
 use Rattle.gd_item.specs.declared.reply.Reply.TheVariants as reply
 use Rattle.gd_item.specs.declared.reply.Resync.{Resync}

@@ -1,5 +1,5 @@
 -- What a request does to a drive.
-use Rattle.std.proofs.Common.{◌≡◌, ℕ, ◌+◌, ◌≤◌, Bool, true, false, cond, nat_lt, List, [], ◌∷◌, ◌++◌, length, Option, Some, None, Result, Ok, Err, IfOk, OnErr, refl, sym, ap, ◌∙◌, subst, inl, inr, append-nil, arith}
+use Rattle.std.proofs.Common.{◌≡◌, ℕ, ◌+◌, ◌≤◌, Bool, true, false, cond, nat_lt, List, [], ◌∷◌, ◌++◌, length, Option, Some, None, Result, Ok, Err, OnErr, refl, sym, ap, ◌∙◌, subst, inl, inr, append-nil, arith}
 use Rattle.std.specs.Prelude.{is_none}
 use Rattle.std.proofs.lemmas.Bool.Decides.{nat_tests}
 use Rattle.gd_item.specs.Answers.{refused, unserved, answer_unless, reply_to, shown, bare_reply}
@@ -19,7 +19,6 @@ use Rattle.gd_item.specs.declared.step.Step.{Step}
 use Rattle.gd_item.specs.declared.step.Step.TheVariants.{Ask, Event}
 use Rattle.gd_item.specs.declared.step.Who.{Who}
 use Rattle.gd_item.specs.declared.step.Who.TheVariants.{Own}
-use Rattle.gd_laws.specs.EveryDrive.{EveryDrive}
 use Rattle.gd_laws.proofs.Every.{every-drive}
 use Rattle.gd_store.specs.Stands as store
 use Rattle.gd_store.specs.Stands.{StoreValue}

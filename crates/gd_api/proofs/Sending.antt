@@ -1,21 +1,20 @@
 -- What requests about upload sessions do to a drive.
-use Rattle.std.proofs.Common.{◌≡◌, ℕ, ◌+◌, ◌-◌, ◌^◌, Bool, true, false, not, ◌&&◌, ◌||◌, cond, nat_eq, nat_le, List, [], ◌∷◌, ◌++◌, length, map, Option, Some, None, Result, Ok, Err, IfOk, OnOk, OnErr, refl, sym, ap, ◌∙◌, subst, inl, inr, append-nil, arith}
+use Rattle.std.proofs.Common.{◌≡◌, ℕ, ◌+◌, ◌-◌, ◌^◌, Bool, true, false, ◌||◌, cond, nat_eq, nat_le, List, [], ◌∷◌, ◌++◌, length, Option, Some, None, Result, Ok, Err, IfOk, OnOk, OnErr, refl, sym, ap, ◌∙◌, subst, inl, inr, append-nil}
 use Rattle.std.specs.Option.{option_map}
 use Rattle.std.proofs.lemmas.Bool.{cases_Bool}
 use Rattle.std.proofs.lemmas.List.{length_push}
 use Rattle.gd_names.specs.declared.conflict.Conflict.{Conflict}
 use Rattle.gd_item.specs.Answers.{about, status_reply, more_reply, effect_reply, reply_to, refused}
-use Rattle.gd_item.specs.Faults.{session_status_of, session_code_of}
 use Rattle.gd_item.specs.Inventory.{Effect, inventory}
 use Rattle.gd_item.specs.Refusals.{put_refusal, put_effect}
-use Rattle.gd_item.specs.Refused.{Refusal, refuse, refusal, by_store, by_session, or_else, at_target, but_quota, is_unlike, not_living, open_refusal, last_refusal, finish_refusal, commit_refusal}
+use Rattle.gd_item.specs.Refused.{Refusal, refuse, refusal, by_store, by_session, or_else, at_target, but_quota, is_unlike, not_living, last_refusal, finish_refusal, commit_refusal}
 use Rattle.gd_item.specs.Sessions.{State, Session, held, held_bytes, session_at, completes_file, is_completed, fragment_fault, finish_fault, with_fragment, without_session}
 use Rattle.gd_item.specs.Steps.{state_of, after_request, effects_of, sessions_of, openers_of, opened, commit_effect, effects_at, fragment_effects, finish_effects}
 use Rattle.gd_item.specs.Targets.{place_of, name_in}
 use Rattle.gd_item.specs.declared.condition.Condition.{Condition}
 use Rattle.gd_item.specs.declared.fault.ErrorCode.TheVariants.{InvalidRequest, QuotaLimitReached}
 use Rattle.gd_item.specs.declared.fault.SessionFault.{SessionFault}
-use Rattle.gd_item.specs.declared.fault.SessionFault.TheVariants.{NoSession, Many}
+use Rattle.gd_item.specs.declared.fault.SessionFault.TheVariants.{NoSession}
 use Rattle.gd_item.specs.declared.fault.StoreFault.{StoreFault}
 use Rattle.gd_item.specs.declared.live.Place.{Place}
 use Rattle.gd_item.specs.declared.reply.Reply.{Reply}

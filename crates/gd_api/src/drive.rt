@@ -128,7 +128,7 @@ impl Drive {
     pub fn set_page(&mut self, page: u64)
         requires above { 1 ≤ page }
         requires below { page ≤ 200 }
-        ensures size { self.new.size ≡ page }
+        ensures size { self.new ≡ record { store = self.old.store; sessions = self.old.sessions; size = page; plain = self.old.plain } }
         ensures stands { (log : List Step) → Stands self.old log → Stands self.new log }
     {
         self.size = page;

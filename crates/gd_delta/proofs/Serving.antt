@@ -1,10 +1,10 @@
 -- A page over a store, and what a token asks for.
-use Rattle.std.proofs.Common.{◌≡◌, ℕ, ◌+◌, ◌≤◌, ◌⊎◌, inl, inr, Bool, true, false, not, ◌||◌, nat_eq, nat_lt, max, List, [], ◌∷◌, length, Option, Some, None, Result, Ok, Err, refl, sym, ap, ◌∙◌, subst, eq-eqb, arith}
+use Rattle.std.proofs.Common.{◌≡◌, ℕ, ◌+◌, ◌≤◌, Bool, true, false, not, ◌||◌, nat_lt, max, List, [], ◌∷◌, length, Option, Some, None, Result, Ok, Err, sym, ap, ◌∙◌, subst, eq-eqb, arith}
 use Rattle.std.proofs.lemmas.Bool.Decides.{nat_tests}
 use Rattle.std.proofs.Math.Nat.{le-max_right}
 use Rattle.gd_names.specs.Causes.{first_cause}
 use Rattle.gd_item.specs.Inventory.{Inventory, Effect, inventory}
-use Rattle.gd_item.specs.Pages.{Asked, Bad, Lost, asked, asked_unless, asked_by_token, page_link, page_past, latest_page}
+use Rattle.gd_item.specs.Pages.{Bad, Lost, asked, asked_unless, asked_by_token, page_link, page_past, latest_page}
 use Rattle.gd_item.specs.Records.{feed, first_of, last_of}
 use Rattle.gd_item.specs.Sessions.{State, held}
 use Rattle.gd_item.specs.declared.item.Item.{Item}

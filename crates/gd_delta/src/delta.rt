@@ -1,8 +1,8 @@
-ghost use Rattle.std.specs.Prelude.{◌≡◌, ◌<◌, ◌||◌, nat_lt, Some};
+ghost use Rattle.std.specs.Prelude.{◌≡◌, ◌<◌, ◌||◌, ◌-◌, ◌^◌, true, nat_lt, Some, IfOk};
 ghost use Rattle.std.specs.Option.{option_copied};
 ghost use Rattle.gd_item.specs.Pages.{asked, asked_by_token};
 ghost use Rattle.gd_item.specs.Sessions.{State};
-ghost use Rattle.gd_delta.specs.Served.{answer_to, Serves};
+ghost use Rattle.gd_delta.specs.Served.{answer_to, is_last, Serves};
 ghost use Rattle.gd_store.specs.Stands.{Stands};
 
 use crate::pages::{DeltaFault, latest_page, page_past};
@@ -22,7 +22,8 @@ fn is_ahead(number: u64, token: &Token) -> bool
 /// The page for a token, or why there is none: it is of another epoch, ahead of the drive, or too old.
 fn page_for(alloc: Global, store: &Store, token: &Token, size: u64) -> Result<Page, DeltaFault>
     requires { 0 < size }
-    ensures { (state : State) → Stands store.now state.effects state.epoch state.floor → Serves (answer_to state size (asked_by_token state (Some token.now))) result }
+    ensures last { size ≡ 2 ^ 64 - 1 → IfOk result (λ page. is_last page.link ≡ true) }
+    ensures answer { (state : State) → Stands store.now state.effects state.epoch state.floor → Serves (answer_to state size (asked_by_token state (Some token.now))) result }
 {
     let number = store.number();
     if token.epoch != store.epoch() {
@@ -39,7 +40,8 @@ fn page_for(alloc: Global, store: &Store, token: &Token, size: u64) -> Result<Pa
 }
 
 /// The page of the feed that a text asks for, of at most so many records: past the token that it spells, or for
-/// `latest` nothing but a link. Where there is no text it is the first page of all that lives.
+/// `latest` nothing but a link. Where there is no text it is the first page of all that lives. Of the greatest size a
+/// page is the last one, since no list has more records.
 pub fn page(
     alloc: Global,
     store: &Store,
@@ -47,7 +49,8 @@ pub fn page(
     size: u64,
 ) -> Result<Page, DeltaFault>
     requires { 0 < size }
-    ensures { (state : State) → Stands store.now state.effects state.epoch state.floor → Serves (answer_to state size (asked state (option_copied token.entry))) result }
+    ensures last { size ≡ 2 ^ 64 - 1 → IfOk result (λ page. is_last page.link ≡ true) }
+    ensures answer { (state : State) → Stands store.now state.effects state.epoch state.floor → Serves (answer_to state size (asked state (option_copied token.entry))) result }
 {
     let Some(text) = token else {
         let page = page_past(alloc, store, 0, store.number(), size)?;

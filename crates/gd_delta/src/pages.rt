@@ -1,6 +1,7 @@
-ghost use Rattle.std.specs.Prelude.{◌≡◌, ◌<◌, ◌≤◌, max, IfOk};
+ghost use Rattle.std.specs.Prelude.{◌≡◌, ◌<◌, ◌≤◌, ◌-◌, ◌^◌, max, true, None, IfOk};
 ghost use Rattle.gd_item.specs.Pages.{page_link as link_of, page_past as page_from, latest_page as newest_page};
 ghost use Rattle.gd_item.specs.Sessions.{State};
+ghost use Rattle.gd_delta.specs.Served.{is_last};
 ghost use Rattle.gd_store.specs.Stands.{Stands};
 
 use crate::token::write_token;
@@ -39,7 +40,8 @@ fn page_link(
     number: u64,
     last: Option<u64>,
 ) -> Result<PageLink, NoMemory>
-    ensures { IfOk result (λ link. link ≡ link_of epoch start number last) }
+    ensures link { IfOk result (λ link. link ≡ link_of epoch start number last) }
+    ensures last { last ≡ None → IfOk result (λ link. is_last link ≡ true) }
 {
     match last {
         None => {
@@ -77,7 +79,8 @@ pub fn page_past(
     size: u64,
 ) -> Result<Page, NoMemory>
     requires { 0 < size }
-    ensures { IfOk result (λ page. (state : State) → Stands store.now state.effects state.epoch state.floor → state.floor ≤ max position start → page ≡ page_from state position start size) }
+    ensures last { size ≡ 2 ^ 64 - 1 → IfOk result (λ page. is_last page.link ≡ true) }
+    ensures page { IfOk result (λ page. (state : State) → Stands store.now state.effects state.epoch state.floor → state.floor ≤ max position start → page ≡ page_from state position start size) }
 {
     let (items, last) = store.changed_after(position, start, size)?;
     let link = page_link(alloc, store.epoch(), start, store.number(), last)?;
@@ -86,7 +89,8 @@ pub fn page_past(
 
 /// The page without records.
 pub fn latest_page(alloc: Global, store: &Store) -> Result<Page, NoMemory>
-    ensures { IfOk result (λ page. (state : State) → Stands store.now state.effects state.epoch state.floor → page ≡ newest_page state) }
+    ensures last { IfOk result (λ page. is_last page.link ≡ true) }
+    ensures page { IfOk result (λ page. (state : State) → Stands store.now state.effects state.epoch state.floor → page ≡ newest_page state) }
 {
     let number = store.number();
     let link = page_link(alloc, store.epoch(), number, number, None)?;

@@ -1,9 +1,9 @@
 -- For which sessions the sessions of a drive stand, and what a call answers.
-use Rattle.std.specs.Prelude.{◌≡◌, ℕ, ◌-◌, ◌^◌, ◌<◌, ◌≤◌, ◌⊎◌, Bool, true, false, ◌||◌, cond, List, [], ◌++◌, length, nat_le, Option, Some, None, Result, Ok, Err, IfOk, IfErr}
+use Rattle.std.specs.Prelude.{◌≡◌, ℕ, ◌-◌, ◌^◌, ◌<◌, ◌≤◌, ◌⊎◌, true, false, ◌||◌, cond, List, [], ◌++◌, length, nat_le, Option, Some, None, Result, Ok, Err, IfOk, IfErr}
 use Rattle.std.specs.List.{All, AllPairs}
 use Rattle.gd_item.specs.Sessions.{Session, session_at, held_bytes, is_completed, with_fragment}
 use Rattle.gd_item.specs.declared.fault.SessionFault.{SessionFault}
-use Rattle.gd_item.specs.declared.fault.SessionFault.TheVariants.{NoSession, Many, Memory}
+use Rattle.gd_item.specs.declared.fault.SessionFault.TheVariants.{Many, Memory}
 use Rattle.gd_upload.specs.declared.progress.Progress.{Progress}
 use Rattle.gd_upload.specs.declared.progress.Progress.TheVariants.{More, Whole}
 use Rattle.gd_upload.specs.declared.target.Target.{Target}

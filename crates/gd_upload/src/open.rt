@@ -155,8 +155,9 @@ impl OpenSession {
     pub fn joined(&self, alloc: Global, bytes: &[u8]) -> Result<Bytes, NoMemory>
         ensures { IfOk result (λ all. all ≡ self.now.filled ++ bytes.now) }
     {
-        let mut all = Vec::new(alloc);
-        all.extend_from_slice(self.filled.as_slice())?;
+        let filled = self.filled.as_slice();
+        let mut all = Vec::with_capacity(alloc, filled.len() + bytes.len())?;
+        all.extend_from_slice(filled)?;
         all.extend_from_slice(bytes)?;
         Ok(Bytes::from_vec(all))
     }

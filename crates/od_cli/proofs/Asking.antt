@@ -1,58 +1,21 @@
 -- Another client's request, and what it prints.
-use Rattle.std.proofs.Common.{◌≡◌, ℕ, true, false, List, ◌++◌, Option, Some, None, Result, Ok, Err, OnOk, refl, sym, ap, ◌∙◌, append-nil}
+use Rattle.std.proofs.Common.{◌≡◌, ℕ, List, ◌++◌, Option, Some, None, Result, Ok, Err, OnOk, sym, ap, ◌∙◌, append-nil}
 use Rattle.gd_item.specs.Answers.{answer}
-use Rattle.gd_item.specs.Sessions.{State, held}
+use Rattle.gd_item.specs.Sessions.{held}
 use Rattle.gd_item.specs.Steps.{state_of}
 use Rattle.gd_item.specs.declared.reply.Reply.{Reply}
 use Rattle.gd_item.specs.declared.request.Request.{Request}
-use Rattle.gd_item.specs.declared.request.Request.TheVariants.{Get, Children, MakeFolder, Put, Patch, Delete, Content, Download, OpenSession, Fragment, SessionStatus, CancelSession, Finish, Delta}
 use Rattle.gd_item.specs.declared.step.Step.{Step}
-use Rattle.gd_api.specs.Drives.{is_about_session}
-use Rattle.gd_api.specs.WholePage.{answer_now}
 use Rattle.od_cli.specs.Played.{reply_text, request_of, request_text, request_steps, line_text}
-use Rattle.od_cli.specs.Plays.{IsAsked, Plays, is_change}
+use Rattle.od_cli.specs.Plays.{IsAsked, Plays}
 use Rattle.od_cli.specs.Worlds.{WorldValue, page_size, with_other}
 use Rattle.od_cli.specs.declared.line.Line.{Line}
 
--- a request that may change the drive is about no upload session
-pub plain : (request : Request) → is_change request ≡ true → is_about_session request ≡ false
-plain (Get at) h = refl
-plain (Children at after) h = refl
-plain (MakeFolder at name behaviour) h = refl
-plain (Put at bytes behaviour condition) h = refl
-plain (Patch at name parent condition) h = refl
-plain (Delete at condition) h = refl
-plain (Content at) h = refl
-plain (Download id version) h = refl
-plain (OpenSession at name behaviour condition defer) h = absurd cc
-plain (Fragment session first last total bytes) h = absurd cc
-plain (SessionStatus session) h = absurd cc
-plain (CancelSession session) h = absurd cc
-plain (Finish session) h = absurd cc
-plain (Delta token) h = refl
-
--- and is answered as it is defined
-as-defined : (state : State) (size : ℕ) (request : Request) → is_change request ≡ true → answer_now state size request ≡ answer state size request
-as-defined state size (Get at) h = refl
-as-defined state size (Children at after) h = refl
-as-defined state size (MakeFolder at name behaviour) h = refl
-as-defined state size (Put at bytes behaviour condition) h = refl
-as-defined state size (Patch at name parent condition) h = refl
-as-defined state size (Delete at condition) h = refl
-as-defined state size (Content at) h = refl
-as-defined state size (Download id version) h = refl
-as-defined state size (OpenSession at name behaviour condition defer) h = refl
-as-defined state size (Fragment session first last total bytes) h = refl
-as-defined state size (SessionStatus session) h = refl
-as-defined state size (CancelSession session) h = refl
-as-defined state size (Finish session) h = refl
-as-defined state size (Delta token) h = absurd cc
-
 -- the request was asked, and its refusal printed
-pub asked : (before after : WorldValue) (old new : List ℕ) (request : Request) (reply : Reply) → is_change request ≡ true → reply ≡ answer_now (state_of before.log) page_size request
+pub asked : (before after : WorldValue) (old new : List ℕ) (request : Request) (reply : Reply) → reply ≡ answer (state_of before.log) page_size request
     → after ≡ record before { log = with_other before.log request } → new ≡ old ++ reply_text reply → IsAsked before after old new request
-asked before after old new request reply change is world printed =
-    record { world = world; printed = printed ∙ ap (λ r. old ++ reply_text r) (is ∙ as-defined (state_of before.log) page_size request change) }
+asked before after old new request reply is world printed =
+    record { world = world; printed = printed ∙ ap (λ r. old ++ reply_text r) is }
 
 -- a line whose request was asked was played
 pub plays : (before after : WorldValue) (old new : List ℕ) (line : Line) (request : Request) → line_text before.log line ≡ request_text (state_of before.log) (request_of (held (state_of before.log)) line)

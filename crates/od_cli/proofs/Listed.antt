@@ -1,9 +1,8 @@
 -- What a drive lists lives on it, and a file has its bytes there.
-use Rattle.std.proofs.Common.{◌≡◌, ℕ, zero, suc, ◌<◌, true, false, ◌||◌, not, cond, nat_eq, List, [], ◌∷◌, Option, Some, None, is_some, is_none, Result, Ok, Err, IfOk, IfErr, inl, inr, refl, sym, ap, ◌∙◌, subst, eq-eqb, arith}
+use Rattle.std.proofs.Common.{◌≡◌, ℕ, zero, suc, ◌<◌, true, ◌||◌, not, cond, nat_eq, List, [], ◌∷◌, Option, Some, None, is_some, is_none, Result, Ok, Err, IfOk, IfErr, inl, inr, refl, sym, ap, ◌∙◌, subst, eq-eqb, arith}
 use Rattle.std.specs.List.{All, AllByRecursion}
 use Rattle.std.specs.Map.{values_of}
 use Rattle.std.specs.Option.{option_map}
-use Rattle.std.proofs.lemmas.Bool.Decides.{nat_tests}
 use Rattle.gd_names.specs.Causes.{first_cause}
 use Rattle.gd_names.specs.Ordered.{in_order}
 use Rattle.gd_item.specs.Inventory.{Inventory, Effect, inventory, live_at}
@@ -20,6 +19,7 @@ use Rattle.gd_item.specs.declared.item.Item.{Item}
 use Rattle.gd_item.specs.declared.item.Kind.TheVariants.{File, Bare, Deleted}
 use Rattle.gd_item.specs.declared.live.LiveItem.{LiveItem}
 use Rattle.gd_store.specs.Stands as store
+use Rattle.gd_store.specs.Stands.{StoreValue}
 use Rattle.gd_names.proofs.Each.{each, each-both}
 use Rattle.gd_names.proofs.Small.{not-root}
 use Rattle.gd_names.proofs.Ordered.{all-in-order-from}
@@ -29,6 +29,7 @@ use Rattle.gd_laws.specs.Placed.{placed_items}
 use Rattle.od_mirror.specs.Pulled.{paths_of, with_records}
 use Rattle.gd_names.proofs.Mapped.{mapped}
 use Rattle.od_mirror.proofs.Standing.{paths-of-placed}
+use Rattle.od_cli.specs.Worlds.{Holds}
 use Rattle.od_cli.specs.Pulled.{whole_items, AreListed, IsFileAt, IsListed}
 use Rattle.od_cli.proofs.Pulls.{records-are, sound-of}
 use Rattle.od_cli.proofs.Shown.{own}
@@ -74,7 +75,7 @@ are-listed held sound =
     let live : AllByRecursion (LivesAt held) entries = all-in-order-from (LivesAt held) [] (placed_items held) tt (placed-live held (nodes_of held) held.items (all-live held sound)) in
     subst (AreListed held) (sym (paths-of-placed held sound)) (all-of (IsListedAt held) (mapped (record_of held.items) entries) (records-listed held entries live))
 
-pub paths-listed : (value : Inventory) (log : List Effect) (page : List Item) (paths slice : List (List (List ℕ) × Item)) → store.Stands value log → page ≡ whole_items (inventory log) → paths ≡ paths_of (values_of (with_records [] page))
+pub paths-listed : (value : StoreValue) (log : List Effect) (page : List Item) (paths slice : List (List (List ℕ) × Item)) → Holds value log → page ≡ whole_items (inventory log) → paths ≡ paths_of (values_of (with_records [] page))
     → slice ≡ paths → AreListed (inventory log) slice
 paths-listed value log page paths slice stands is are lent =
     subst (AreListed (inventory log)) (sym (lent ∙ are ∙ ap paths_of (records-are page value log stands is))) (are-listed (inventory log) (sound-of value log stands))
@@ -144,10 +145,10 @@ never-refused held number fault file is =
     cc given
 
 -- the bytes of that version are those that stand in it
-pub version-found : (value : Inventory) (number content : ℕ) (result : Result (List ℕ) StoreFault)
-    → ((log : List Effect) → store.Stands value log → store.Answers (missing (version_at number content (inventory log))) result (λ bytes. version_at number content (inventory log) ≡ Some bytes))
-    → ((log : List Effect) → store.Stands value log → content ≡ content_at number (inventory log))
-    → IfOk result (λ bytes. (log : List Effect) → store.Stands value log → version_at number (content_at number (inventory log)) (inventory log) ≡ Some bytes)
+pub version-found : (value : StoreValue) (number content : ℕ) (result : Result (List ℕ) StoreFault)
+    → ((log : List Effect) → Holds value log → store.Answers (missing (version_at number content (inventory log))) result (λ bytes. version_at number content (inventory log) ≡ Some bytes))
+    → ((log : List Effect) → Holds value log → content ≡ content_at number (inventory log))
+    → IfOk result (λ bytes. (log : List Effect) → Holds value log → version_at number (content_at number (inventory log)) (inventory log) ≡ Some bytes)
 version-found value number content (Ok bytes) answers is =
     λ log stands. ap (λ c. version_at number c (inventory log)) (sym (is log stands)) ∙ (answers log stands).ok.1
 version-found value number content (Err fault) answers is = tt

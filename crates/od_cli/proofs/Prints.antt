@@ -10,7 +10,7 @@ use Rattle.gd_item.specs.declared.item.Item.{Item}
 use Rattle.gd_item.specs.declared.live.LiveItem.{LiveItem}
 use Rattle.gd_item.proofs.Effects.{number-inventory}
 use Rattle.gd_item.specs.Sound.{IsItemMap}
-use Rattle.gd_store.specs.Stands as store
+use Rattle.gd_store.specs.Stands.{StoreValue}
 use Rattle.std.specs.Map.{values_of}
 use Rattle.gd_item.specs.Records.{records_of}
 use Rattle.gd_laws.specs.Placed.{placed_items}
@@ -22,7 +22,7 @@ use Rattle.od_cli.specs.Pulled.{item_line, kind_line, whole_items}
 use Rattle.gd_item.specs.Steps.{state_of, held_by}
 use Rattle.gd_item.specs.declared.request.Request.TheVariants.{Delta}
 use Rattle.od_cli.specs.Plays.{Plays}
-use Rattle.od_cli.specs.Worlds.{WorldValue, with_other}
+use Rattle.od_cli.specs.Worlds.{WorldValue, with_other, Holds}
 use Rattle.od_cli.specs.declared.line.Line.TheVariants.{Pull}
 use Rattle.od_cli.proofs.Pulls.{sound-of, records-are}
 
@@ -44,7 +44,7 @@ tree-lines held sound =
     ∙ same-lines held.items (in_order (placed_items held)) ∙ sym (ap (λ (xs : List (List (List ℕ) × Option (List ℕ))). flat_map entry_line xs) (tree-of-placed held))
 
 -- a pull prints the drive's number and its tree
-pub pull-printed : (value : Inventory) (log : List Effect) (page : List Item) (paths : List (List (List ℕ) × Item)) (number : ℕ) (old first new : List ℕ) → store.Stands value log → page ≡ whole_items (inventory log)
+pub pull-printed : (value : StoreValue) (log : List Effect) (page : List Item) (paths : List (List (List ℕ) × Item)) (number : ℕ) (old first new : List ℕ) → Holds value log → page ≡ whole_items (inventory log)
     → paths ≡ paths_of (values_of (with_records [] page)) → number ≡ length log + 1 → first ≡ old ++ (codes "pull" ++ codes " " ++ decimal number ++ codes "\n") → new ≡ first ++ flat_map item_line paths → new ≡ old ++ pull_text (inventory log)
 pull-printed value log page paths number old first new stands is are own begins ends =
     let named : number ≡ (inventory log).number = own ∙ sym (number-inventory log) in
@@ -56,8 +56,8 @@ pull-printed value log page paths number old first new stands is are own begins 
     ∙ ap (λ l. old ++ ((codes "pull " ++ decimal (inventory log).number ++ codes "\n") ++ l)) lines
 
 -- so the line was played
-pub pull-plays : (before after : WorldValue) (value : Inventory) (old first new : List ℕ) (page : List Item) (paths slice : List (List (List ℕ) × Item)) (number : ℕ) → store.Stands value (state_of before.log).effects
-    → ((effects : List Effect) → store.Stands value effects → number ≡ length effects + 1) → page ≡ whole_items (held_by before.log) → after ≡ record before { log = with_other before.log (Delta None) }
+pub pull-plays : (before after : WorldValue) (value : StoreValue) (old first new : List ℕ) (page : List Item) (paths slice : List (List (List ℕ) × Item)) (number : ℕ) → Holds value (state_of before.log).effects
+    → ((effects : List Effect) → Holds value effects → number ≡ length effects + 1) → page ≡ whole_items (held_by before.log) → after ≡ record before { log = with_other before.log (Delta None) }
     → paths ≡ paths_of (values_of (with_records [] page)) → slice ≡ paths → first ≡ old ++ (codes "pull" ++ codes " " ++ decimal number ++ codes "\n") → new ≡ first ++ flat_map item_line slice → Plays before after old new Pull
 pull-plays before after value old first new page paths slice number stands named items asked are same begins ends = record {
   world = asked;

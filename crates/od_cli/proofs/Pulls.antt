@@ -1,31 +1,40 @@
 -- A fresh pull gives what the drive holds.
-use Rattle.std.proofs.Common.{◌≡◌, ℕ, ◌+◌, true, false, List, [], length, Option, None, refl, sym, ap, ◌∙◌, subst}
-use Rattle.std.specs.Map.{values_of}
+use Rattle.std.proofs.Common.{◌≡◌, ℕ, ◌+◌, ◌-◌, ◌≤◌, max, true, false, nat_lt, List, [], length, slice_index, Option, Some, None, refl, sym, ap, ◌∙◌, subst, arith}
+use Rattle.std.specs.Map.{keys_of, values_of}
 use Rattle.gd_item.specs.Inventory.{Inventory, Effect, inventory}
 use Rattle.gd_item.specs.Records.{feed, first_of, last_of}
-use Rattle.gd_item.specs.Sound.{IsItemMap}
+use Rattle.gd_item.specs.Sound.{IsItemMap, IsWithin}
 use Rattle.gd_item.specs.Steps.{state_of, held_by}
 use Rattle.gd_item.specs.declared.item.Item.{Item}
 use Rattle.gd_item.specs.declared.reply.Page.{Page}
 use Rattle.gd_item.specs.declared.reply.PageLink.{PageLink}
 use Rattle.gd_item.specs.declared.reply.PageLink.TheVariants as link
-use Rattle.gd_item.specs.declared.reply.Reply.{Reply}
-use Rattle.gd_item.specs.declared.reply.Reply.TheVariants as reply
-use Rattle.gd_item.specs.declared.request.Request.TheVariants.{Delta}
 use Rattle.gd_item.specs.declared.step.Step.{Step}
 use Rattle.gd_item.proofs.Effects.{number-inventory}
-use Rattle.gd_api.specs.WholePage.{answer_now}
-use Rattle.gd_api.proofs.OnePage.{all-given}
+use Rattle.gd_delta.specs.Served.{is_last}
+use Rattle.gd_laws.proofs.Logs.{sound-log}
+use Rattle.gd_names.proofs.Small.{not-below, none-given}
+use Rattle.gd_item.specs.Pages.{page_link, page_past}
+use Rattle.std.proofs.Math.Nat.{le-max_right}
+use Rattle.std.proofs.lemmas.List.{take_all}
+use Rattle.std.proofs.lemmas.List.Elements.{All-weaker}
+use Rattle.std.proofs.lemmas.Map.Entries.{length-values_of}
 use Rattle.gd_laws.proofs.Marks.{is-marked}
-use Rattle.gd_store.specs.Stands as store
+use Rattle.gd_store.specs.Stands.{StoreValue, Stands, pruned}
 use Rattle.gd_item.specs.Records.{records_of}
-use Rattle.od_mirror.specs.Pulled.{Pulled, begun, after_link, after_page, with_records, nodes, is_bad, IsLeastBad, taken_of}
-use Rattle.od_mirror.specs.declared.mirror.Taken.{Taken}
-use Rattle.od_mirror.specs.declared.mirror.Taken.TheVariants.{Last, More}
+use Rattle.od_mirror.specs.Pulled.{Pulled, begun, after_page, with_records, nodes, is_bad, IsLeastBad, taken_of}
+use Rattle.od_mirror.specs.declared.mirror.Taken.TheVariants.{Last}
 use Rattle.od_mirror.proofs.Pulling.{feed-gives-all, link-items}
 use Rattle.od_mirror.proofs.Standing.{records-fit}
 use Rattle.od_cli.specs.Pulled.{whole_items, IsWhole}
-use Rattle.od_cli.specs.Worlds.{page_size}
+use Rattle.od_cli.specs.Worlds.{Holds}
+
+-- where no more follow all were given
+all-given : (most : ℕ) (changes : List (ℕ × Item)) → last_of most changes ≡ None → first_of most changes ≡ values_of changes
+all-given most changes none =
+    let few : length changes ≤ most = not-below most (length changes) (none-given (nat_lt most (length changes)) (slice_index (keys_of changes) (most - 1)) none) in
+    let same : length (values_of changes) ≡ length changes = length-values_of changes in
+    take_all most (values_of changes) (omega arith)
 
 -- the records are those of a fresh enumeration
 pub items-are : (items : List Item) (more : Option ℕ) (number most : ℕ) (log : List Effect) → number ≡ length log + 1
@@ -34,12 +43,30 @@ items-are items more number most log is given last none =
     let own : number ≡ (inventory log).number = is ∙ sym (number-inventory log) in
     given ∙ all-given most (feed (inventory log) 0 number) (sym last ∙ none) ∙ ap (λ n. values_of (feed (inventory log) 0 n)) own
 
+-- nothing that a store forgot is in a fresh enumeration
+pub reached : (held : StoreValue) (log : List Effect) (epoch floor number : ℕ) → Stands held log epoch floor → number ≡ length log + 1 → floor ≤ max 0 number
+reached held log epoch floor number stands is =
+    let P : Inventory → Type 0 = λ h. floor ≤ h.number in
+    let own : number ≡ (inventory log).number = is ∙ sym (number-inventory log) in
+    let below : floor ≤ (inventory log).number = subst P stands.held stands.reached in
+    let up : number ≤ max 0 number = le-max_right 0 number in
+    omega arith
+
 -- what the store's effects make is a tree
-pub sound-of : (held : Inventory) (log : List Effect) → store.Stands held log → IsItemMap (inventory log)
-sound-of held log stands = subst IsItemMap stands.held stands.sound
+sound-whole : (floor : ℕ) (held : Inventory) → IsItemMap (pruned floor held) → IsItemMap held
+sound-whole floor held sound = record {
+  within = All-weaker (IsWithin (pruned floor held)) (IsWithin held) (λ item w. record { above = w.above; below = w.below; later = w.later; done = w.done }) held.items sound.within;
+  numbers = sound.numbers;
+  changes = sound.changes;
+  led = sound.led;
+  told_apart = sound.told_apart;
+}
+
+pub sound-of : (held : StoreValue) (log : List Effect) → Holds held log → IsItemMap (inventory log)
+sound-of held log holds = sound-whole holds.1 (inventory log) (subst IsItemMap holds.2.held holds.2.sound)
 
 -- a store's page of a fresh enumeration is one of a drive
-pub whole-of : (page : Page) (held : Inventory) (log : List Effect) → store.Stands held log → page.items ≡ whole_items (inventory log) → taken_of page.link ≡ Last → IsWhole page
+pub whole-of : (page : Page) (held : StoreValue) (log : List Effect) → Holds held log → page.items ≡ whole_items (inventory log) → taken_of page.link ≡ Last → IsWhole page
 whole-of page held log stands is last = record { effects = log; sound = sound-of held log stands; items = is; last = last }
 
 -- what was pulled is what the page has
@@ -49,7 +76,7 @@ pulled-is none page before after empty start taken =
     ∙ ap (λ (p : Pulled). values_of (with_records p.items page.items)) (start ∙ ap (λ (xs : List Item). begun xs None) empty)
 
 -- the records of a fresh enumeration give what the drive holds
-pub records-are : (items : List Item) (held : Inventory) (log : List Effect) → store.Stands held log → items ≡ whole_items (inventory log) → values_of (with_records [] items) ≡ records_of (inventory log)
+pub records-are : (items : List Item) (held : StoreValue) (log : List Effect) → Holds held log → items ≡ whole_items (inventory log) → values_of (with_records [] items) ≡ records_of (inventory log)
 records-are items held log stands is =
     ap (λ (xs : List Item). values_of (with_records [] xs)) is ∙ feed-gives-all (inventory log) (sound-of held log stands) (is-marked log) (inventory log).number
 
@@ -64,20 +91,22 @@ never-bad page after number whole is bad =
     let yes : is_bad (nodes (values_of after.items)) number ≡ true = bad.bad in
     cc (yes, here, fit)
 
-page-items : Reply → List Item
-page-items (reply.Page page) = page.items
-page-items r = []
+-- the page that a drive gives where no token is sent
+last-none : (epoch start number : ℕ) (more : Option ℕ) → is_last (page_link epoch start number more) ≡ true → more ≡ None
+last-none epoch start number None last = refl
+last-none epoch start number (Some last) is = absurd cc
 
-page-taken : Reply → Taken
-page-taken (reply.Page page) = taken_of page.link
-page-taken r = More
+taken-last : (l : PageLink) → is_last l ≡ true → taken_of l ≡ Last
+taken-last (link.Next token) last = absurd cc
+taken-last (link.Delta token) last = refl
 
--- the page that the drive answers
-pub page-is : (log : List Step) (r : Reply) (page : Page) → r ≡ reply.Page page → r ≡ answer_now (state_of log) page_size (Delta None) → page.items ≡ whole_items (held_by log)
-unfolding page-items
-page-is log r page is found = ap page-items (sym is ∙ found)
+pub page-items : (log : List Step) (size : ℕ) (page : Page) → page ≡ page_past (state_of log) 0 (held_by log).number size → is_last page.link ≡ true → page.items ≡ whole_items (held_by log)
+page-items log size page is last =
+    let changes : List (ℕ × Item) = feed (held_by log) 0 (held_by log).number in
+    let none : last_of size changes ≡ None =
+    last-none (state_of log).epoch (held_by log).number (held_by log).number (last_of size changes) (sym (ap (λ (p : Page). is_last p.link) is) ∙ last) in
+    ap (λ (p : Page). p.items) is ∙ all-given size changes none
 
-pub page-whole : (log : List Step) (r : Reply) (page : Page) → r ≡ reply.Page page → r ≡ answer_now (state_of log) page_size (Delta None) → IsItemMap (held_by log) → IsWhole page
-unfolding page-taken
-page-whole log r page is found sound =
-    record { effects = (state_of log).effects; sound = sound; items = page-is log r page is found; last = ap page-taken (sym is ∙ found) }
+pub page-whole : (log : List Step) (size : ℕ) (page : Page) → page ≡ page_past (state_of log) 0 (held_by log).number size → is_last page.link ≡ true → IsWhole page
+page-whole log size page is last =
+    record { effects = (state_of log).effects; sound = sound-log log; items = page-items log size page is last; last = taken-last page.link last }

@@ -17,7 +17,7 @@ use Rattle.gd_item.specs.declared.live.LiveItem.{LiveItem}
 use Rattle.gd_item.specs.declared.step.Step.{Step}
 use Rattle.gd_names.proofs.Each.{AllPairs-tail, each-later, each-both}
 use Rattle.gd_item.proofs.Effects.{number-inventory}
-use Rattle.gd_store.specs.Stands as store
+use Rattle.gd_store.specs.Stands.{StoreValue}
 use Rattle.gd_item.specs.Records.{records_of}
 use Rattle.gd_laws.specs.Placed.{placed_items}
 use Rattle.od_mirror.specs.Pulled.{paths_of, with_records}
@@ -26,7 +26,7 @@ use Rattle.od_mirror.proofs.Standing.{paths-of-placed, tree-of-placed}
 use Rattle.od_cli.specs.Played.{content_line, drive_text}
 use Rattle.od_cli.specs.Plays.{Plays}
 use Rattle.od_cli.specs.Pulled.{shown_kind, shown_line, whole_items}
-use Rattle.od_cli.specs.Worlds.{WorldValue}
+use Rattle.od_cli.specs.Worlds.{WorldValue, Holds}
 use Rattle.od_cli.specs.declared.line.Line.TheVariants.{Drive}
 use Rattle.od_cli.proofs.Pulls.{sound-of, records-are}
 
@@ -83,7 +83,7 @@ shown-lines drive sound =
     ∙ same-lines drive (in_order entries) ∙ ap (λ (xs : List (List (List ℕ) × Option (List ℕ))). flat_map content_line xs) (same ∙ sym (tree-of-placed drive))
 
 -- what is printed of a store
-pub store-printed : (value : Inventory) (log : List Effect) (page : List Item) (paths slice : List (List (List ℕ) × Item)) (number : ℕ) (old first new : List ℕ) → store.Stands value log → page ≡ whole_items (inventory log)
+pub store-printed : (value : StoreValue) (log : List Effect) (page : List Item) (paths slice : List (List (List ℕ) × Item)) (number : ℕ) (old first new : List ℕ) → Holds value log → page ≡ whole_items (inventory log)
     → paths ≡ paths_of (values_of (with_records [] page)) → slice ≡ paths → number ≡ length log + 1 → first ≡ old ++ (codes "drive" ++ codes " " ++ decimal number ++ codes "\n")
     → new ≡ first ++ flat_map (shown_line (inventory log)) slice → new ≡ old ++ drive_text (inventory log)
 store-printed value log page paths slice number old first new stands is are lent named begins ends =
@@ -97,7 +97,7 @@ store-printed value log page paths slice number old first new stands is are lent
     ∙ ap (λ l. old ++ ((codes "drive " ++ decimal drive.number ++ codes "\n") ++ l)) lines
 
 -- so the line was played
-pub drive-plays : (world : WorldValue) (value : Inventory) (old new : List ℕ) → store.Stands value (state_of world.log).effects → ((effects : List Effect) → store.Stands value effects → new ≡ old ++ drive_text (inventory effects)) → Plays world world old new Drive
+pub drive-plays : (world : WorldValue) (value : StoreValue) (old new : List ℕ) → Holds value (state_of world.log).effects → ((effects : List Effect) → Holds value effects → new ≡ old ++ drive_text (inventory effects)) → Plays world world old new Drive
 drive-plays world value old new stands printed = record {
   world = ap (λ (l : List Step). record world { log = l }) (sym (append-nil world.log));
   printed = printed (state_of world.log).effects stands;

@@ -1,165 +1,112 @@
 -- What the world's drive replies to this client.
-use Rattle.std.proofs.Common.{◌≡◌, ◌⊎◌, ℕ, ◌+◌, ◌^◌, ◌≤◌, min, Bool, true, false, not, ◌&&◌, ◌||◌, cond, nat_eq, nat_lt, max, ◌-◌, List, [], ◌∷◌, ◌++◌, length, codes, slice_index, Option, Some, None, inl, inr, refl, sym, ap, ◌∙◌, subst, arith}
-use Rattle.std.specs.Cmp.Lexicographic.{pointwise}
-use Rattle.std.specs.Map.{keys_of, values_of}
-use Rattle.std.proofs.lemmas.Bool.Decides.{nat_tests}
-use Rattle.std.proofs.lemmas.List.{take_all}
-use Rattle.std.proofs.lemmas.Map.Entries.{length-values_of}
-use Rattle.gd_names.specs.Causes.{first_cause}
+use Rattle.std.proofs.Common.{◌≡◌, ℕ, ◌+◌, ◌^◌, ◌≤◌, min, Bool, true, false, cond, ◌-◌, List, [], ◌∷◌, ◌++◌, Option, Some, None, Result, Ok, append-nil, inl, inr, refl, sym, ap, ◌∙◌, subst, arith}
 use Rattle.gd_item.specs.Answers.{answer, about, answer_unless, content_reply, delta_reply, found_reply, shown}
-use Rattle.gd_item.specs.Inventory.{Inventory, live_at}
-use Rattle.gd_item.specs.Pages.{Past, Latest, Bad, Lost, asked, asked_unless, asked_by_token, is_bad, page_link, page_past}
-use Rattle.gd_item.specs.Records.{feed, first_of, last_of}
+use Rattle.gd_item.specs.Inventory.{Effect, Inventory, live_at}
+use Rattle.gd_item.specs.Pages.{Asked, Past, Latest, Bad, Lost, asked, is_bad, latest_page, page_past}
 use Rattle.gd_item.specs.Faults.{code_of, status_of}
 use Rattle.gd_item.specs.Replies.{has_status}
 use Rattle.gd_item.specs.Refused.{Refusal, at_target, by_store, refuse, refusal}
 use Rattle.gd_item.specs.Refusals.{file_refusal, missing}
-use Rattle.gd_item.specs.Sessions.{State, held}
-use Rattle.gd_item.specs.Steps.{state_of}
+use Rattle.gd_item.specs.Sessions.{State, held, new_state}
+use Rattle.gd_item.specs.Steps.{after_request, after_step, held_by, is_accepted, state_of}
 use Rattle.gd_item.specs.Targets.{target_of}
 use Rattle.gd_item.specs.Versions.{version_at}
-use Rattle.gd_item.specs.Tokens.{fields_from, token_of_fields, token_of_text}
 use Rattle.gd_item.specs.declared.fault.ErrorCode.TheVariants.{InvalidRequest}
 use Rattle.gd_item.specs.declared.fault.StoreFault.{StoreFault}
 use Rattle.gd_item.specs.declared.fault.StoreFault.TheVariants as fault
 use Rattle.gd_item.specs.declared.id.ItemId.{ItemId}
-use Rattle.gd_item.specs.declared.item.Item.{Item}
 use Rattle.gd_item.specs.declared.request.Address.{Address}
 use Rattle.gd_item.specs.declared.live.LiveItem.{LiveItem}
+use Rattle.gd_item.specs.declared.reply.Page.{Page}
+use Rattle.gd_item.specs.declared.reply.PageLink.{PageLink}
+use Rattle.gd_item.specs.declared.reply.PageLink.TheVariants as link
 use Rattle.gd_item.specs.declared.reply.Reply.{Reply}
 use Rattle.gd_item.specs.declared.reply.Reply.TheVariants as reply
-use Rattle.gd_item.specs.declared.reply.Resync.TheVariants.{ApplyDifferences, UploadDifferences}
 use Rattle.gd_item.specs.declared.request.Request.{Request}
-use Rattle.gd_item.specs.declared.request.Request.TheVariants.{Get, Children, MakeFolder, Put, Patch, Delete, Content, Download, OpenSession, Fragment, SessionStatus, CancelSession, Finish, Delta}
+use Rattle.gd_item.specs.declared.request.Request.TheVariants.{Content, Download, OpenSession, Fragment, SessionStatus, CancelSession, Finish, Delta}
 use Rattle.gd_item.specs.declared.step.Step.{Step}
 use Rattle.gd_item.specs.declared.step.Step.TheVariants.{Ask}
 use Rattle.gd_item.specs.declared.step.Who.{Who}
 use Rattle.gd_item.specs.declared.step.Who.TheVariants.{Own}
-use Rattle.gd_item.specs.declared.token.Token.{Token}
-use Rattle.gd_api.specs.Drives.{DriveValue, Stands, Handles, is_about_session, is_refusal}
-use Rattle.gd_api.specs.WholePage.{answer_now, page_for_token, whole_delta, whole_page}
-use Rattle.gd_api.proofs.Handling.{answer-whole}
-use Rattle.gd_laws.specs.Served.{is_page}
-use Rattle.od_transfer.specs.Asking.{IsPageSize, may_answer, may_answer_content, may_answer_download, may_answer_delta}
+use Rattle.gd_api.specs.Drives.{DriveValue, Has, Stands, Handles, is_refusal}
+use Rattle.gd_store.specs.Stands.{StoreValue, Stands as StandsFor}
+use Rattle.gd_delta.specs.Served.{answer_to, is_last, Serves}
+use Rattle.gd_delta.specs.declared.pages.DeltaFault.{DeltaFault}
+use Rattle.gd_item.proofs.LogsGrow.{after_steps-append}
+use Rattle.od_transfer.specs.Asking.{IsPageSize, is_last_link, may_answer, may_answer_content, may_answer_download}
 use Rattle.od_transfer.specs.Undisturbed.{is_servable}
-use Rattle.od_cli.specs.Worlds.{WorldValue, IsDriveOf, IsOwnReply, heard, is_no_page, is_want_of_memory, page_size, unheard}
+use Rattle.od_cli.specs.Worlds.{WorldValue, IsDriveOf, IsOwnReply, heard, is_about_session, is_delta, is_want_of_memory, page_size, unheard}
 
--- the refusal of a token
-abbrev bad_token : Reply
-bad_token = reply.Refused 400 InvalidRequest
+-- an answer of a drive that is not plain
+unshown : (state : State) (size : ℕ) (request : Request) → state.plain ≡ false → answer state size request ≡ answer_unless (refusal state request) state size request
+unshown state size request whole = ap (λ b. shown b (answer_unless (refusal state request) state size request)) whole
 
--- a token is one of the feed that is served, and the reply is that page, or it is none, and is refused
-abbrev pub IsPast : State → Option (List ℕ) → Type 0
-IsPast state token =
-    (position start : ℕ) × (asked state token ≡ Past position start) × (whole_delta (held state) token ≡ whole_page (held state) position start)
+-- a step of a request leaves the drive as plain as it was, and one for changes leaves all as it was
+state-push : (log : List Step) (step : Step) → state_of (log ++ step ∷ []) ≡ after_step (state_of log) step
+state-push log step = after_steps-append new_state log (step ∷ [])
 
-abbrev pub IsNone : State → Option (List ℕ) → Type 0
-IsNone state token = (is_page (asked state token) ≡ false) × (whole_delta (held state) token ≡ bad_token)
+plain-kept : (state : State) (who : Who) (request : Request) (heard : Bool) → (after_step state (Ask who request true heard)).plain ≡ state.plain
+plain-kept state who request heard =
+    elim (is_accepted state request true) as (λ b. (cond b (after_request state who request) state).plain ≡ state.plain) [ true ↦ refl | false ↦ refl ]
 
--- by the three tests of a token
-by-tests : (foreign far ahead old : Bool) (token : Token) (page : Reply) → old ≡ false
-    → let asks = asked_unless (first_cause ((foreign, Lost UploadDifferences) ∷ (far || ahead, Bad) ∷ (old, Lost ApplyDifferences) ∷ [])) token in
-    let reply = cond (foreign || far || ahead) bad_token page in
-    ((asks ≡ Past token.position token.start) × (reply ≡ page)) ⊎ ((is_page asks ≡ false) × (reply ≡ bad_token))
-by-tests true far ahead old token page none = inr (refl, refl)
-by-tests false true ahead old token page none = inr (refl, refl)
-by-tests false false true old token page none = inr (refl, refl)
-by-tests false false false true token page none = absurd cc
-by-tests false false false false token page none = inl (refl, refl)
+delta-rests : (state : State) (who : Who) (token : Option (List ℕ)) (heard : Bool) → after_step state (Ask who (Delta token) true heard) ≡ state
+delta-rests state who token heard =
+    elim (is_accepted state (Delta token) true) as (λ b. cond b (after_request state who (Delta token)) state ≡ state)
+    [ true ↦ ap (λ (effects : List Effect). record state { effects = effects }) (append-nil state.effects) | false ↦ refl ]
 
-not-below-none : (n : ℕ) → nat_lt n 0 ≡ false
-not-below-none n = grind (arith, nat_tests)
+pub after-delta : (drive : DriveValue) (log now more : List Step) (who : Who) (token sent : Option (List ℕ)) (step : Step) → IsDriveOf drive log → now ≡ log → sent ≡ token → step ≡ Ask who (Delta sent) true true
+    → more ≡ now ++ step ∷ [] → IsDriveOf drive more
+after-delta drive log now more who token sent step is same copied made grown =
+    let at : List Step = log ++ Ask who (Delta token) true true ∷ [] in
+    let rests : state_of at ≡ state_of log = state-push log (Ask who (Delta token) true true) ∙ delta-rests (state_of log) who token true in
+    let all : more ≡ at = grown ∙ ap (λ (l : List Step). l ++ step ∷ []) same ∙ ap (λ s. log ++ s ∷ []) (made ∙ ap (λ t. Ask who (Delta t) true true) copied) in
+    subst (IsDriveOf drive) (sym all) (record { stands = subst (Has drive) (sym rests) is.stands; size = is.size; plain = ap (λ (state : State). state.plain) rests ∙ is.plain })
 
-by-token : (state : State) (found : Option Token) → state.epoch ≡ 1 → state.floor ≡ 0
-    → ((position start : ℕ) × (asked_by_token state found ≡ Past position start) × (page_for_token (held state) found ≡ whole_page (held state) position start))
-    ⊎ ((is_page (asked_by_token state found) ≡ false) × (page_for_token (held state) found ≡ bad_token))
-by-token state None first kept = inr (refl, refl)
-by-token state (Some token) first kept =
-    let n = (held state).number in
-    let same : not (nat_eq token.epoch 1) ≡ not (nat_eq token.epoch state.epoch) = ap (λ e. not (nat_eq token.epoch e)) (sym first) in
-    let none : nat_lt (max token.position token.start) state.floor ≡ false = ap (λ f. nat_lt (max token.position token.start) f) kept ∙ not-below-none (max token.position token.start) in
-    let page = whole_page (held state) token.position token.start in
-    let far = nat_lt n token.position in
-    let ahead = nat_lt n token.start in
-    let alike : page_for_token (held state) (Some token) ≡ cond (not (nat_eq token.epoch state.epoch) || far || ahead) bad_token page =
-    ap (λ b. cond (b || far || ahead) bad_token page) same in
-    elim (by-tests (not (nat_eq token.epoch state.epoch)) far ahead (nat_lt (max token.position token.start) state.floor) token page none) [
-      | inl is ↦ inl (token.position, token.start, is.0, alike ∙ is.1)
-      | inr is ↦ inr (is.0, alike ∙ is.1)
-    ]
+-- a page that is given is the drive's answer
+page-reply : (state : State) (size : ℕ) (asks : Asked) (page : Page) → Ok page ≡ answer_to state size asks → (reply.Page page ≡ delta_reply state size asks) × (is_bad asks ≡ false)
+page-reply state size (Past position start) page is = (ap reply.Page (let same : page ≡ page_past state position start size = cc is in same), refl)
+page-reply state size Latest page is = (ap reply.Page (let same : page ≡ latest_page state = cc is in same), refl)
+page-reply state size Bad page is = absurd (cc is)
+page-reply state size (Lost resync) page is = absurd (cc is)
 
-left-true : (a b : Bool) → (a && b) ≡ true → a ≡ true
-left-true true b is = refl
-left-true false b is = is
+given-page : (answer : Result Page DeltaFault) (page : Page) → Serves answer (Ok page) → Ok page ≡ answer
+given-page answer page (inl is) = is
+given-page answer page (inr memory) = absurd (cc memory)
 
-not-t : (b : ℕ) → nat_eq b 108 ≡ true → nat_eq b 116 ≡ false
-not-t b is = grind (arith, nat_tests)
+last-link : (l : PageLink) → is_last l ≡ true → is_last_link l ≡ true
+last-link (link.Next token) last = absurd cc
+last-link (link.Delta token) last = refl
 
-latest-none : (text : List ℕ) → pointwise nat_eq text (codes "latest") ≡ true → token_of_text text ≡ None
-latest-none [] is = refl
-latest-none (b ∷ text) is =
-    ap (λ t. cond t (token_of_fields (fields_from [] text)) None) (not-t b (left-true (nat_eq b 108) (pointwise nat_eq text (codes "atest")) is))
+pub own-page : (state : State) (token : Option (List ℕ)) (size : ℕ) (page : Page) → state.plain ≡ false → 1 ≤ size → Serves (answer_to state size (asked state token)) (Ok page) → is_last page.link ≡ true
+    → IsOwnReply state (Delta token) (reply.Page page)
+own-page state token size page whole some serves last =
+    let found = page-reply state size (asked state token) page (given-page (answer_to state size (asked state token)) page serves) in
+    record {
+      size = size;
+      fits = some;
+      plain = whole;
+      reply_is =
+          found.0 ∙ sym (unshown state size (Delta token) whole ∙ ap (λ b. answer_unless (cond b (Some (refuse 400 InvalidRequest)) None) state size (Delta token)) found.1);
+      kind = last-link page.link last;
+    }
 
-by-text : (state : State) (text : List ℕ) (latest : Bool) → pointwise nat_eq text (codes "latest") ≡ latest → state.epoch ≡ 1 → state.floor ≡ 0 → IsPast state (Some text) ⊎ IsNone state (Some text)
-by-text state text true is first kept =
-    let none : token_of_text text ≡ None = latest-none text is in
-    inr (ap (λ b. is_page (cond b Latest (asked_by_token state (token_of_text text)))) is, ap (page_for_token (held state)) none)
-by-text state text false is first kept =
-    let asks : asked state (Some text) ≡ asked_by_token state (token_of_text text) = ap (λ b. cond b Latest (asked_by_token state (token_of_text text))) is in
-    elim (by-token state (token_of_text text) first kept) [
-      | inl found ↦ inl (found.0, found.1, asks ∙ found.2, found.3)
-      | inr none ↦ inr (ap is_page asks ∙ none.0, none.1)
-    ]
+-- the page that is given where no token is sent
+pub fresh-page : (drive : DriveValue) (log : List Step) (lent : StoreValue) (size : ℕ) (page : Page) → IsDriveOf drive log → lent ≡ drive.store
+    → ((state : State) → StandsFor lent state.effects state.epoch state.floor → Serves (answer_to state size (asked state None)) (Ok page)) → page ≡ page_past (state_of log) 0 (held_by log).number size
+fresh-page drive log lent size page is same serves =
+    let state : State = state_of log in
+    let stands : StandsFor lent state.effects state.epoch state.floor = subst (λ s. StandsFor s state.effects state.epoch state.floor) (sym same) is.stands.store in
+    let given : Ok page ≡ Ok (page_past state 0 (held_by log).number size) = given-page (answer_to state size (asked state None)) page (serves state stands) in
+    cc given
 
-pub past-or-none : (state : State) (token : Option (List ℕ)) → state.epoch ≡ 1 → state.floor ≡ 0 → IsPast state token ⊎ IsNone state token
-past-or-none state None first kept = inl (0, (held state).number, refl, refl)
-past-or-none state (Some text) first kept = by-text state text (pointwise nat_eq text (codes "latest")) refl first kept
-
--- the answer to such a token
-past-answer : (state : State) (size : ℕ) (token : Option (List ℕ)) (position start : ℕ) → state.plain ≡ false → asked state token ≡ Past position start
-    → answer state size (Delta token) ≡ reply.Page (page_past state position start size)
-past-answer state size token position start whole is =
-    answer-whole state size (Delta token) whole (ap (λ a. cond (is_bad a) (Some (refuse 400 InvalidRequest)) None) is) ∙ ap (delta_reply state size) is
-
--- a page that has room for the whole feed has it
-not-less : (n size : ℕ) → n ≤ size → nat_lt size n ≡ false
-not-less n size few = grind (arith, nat_tests)
-
-whole-is : (state : State) (position start size : ℕ) → length (feed (held state) position start) ≤ size → state.epoch ≡ 1
-    → whole_page (held state) position start ≡ reply.Page (page_past state position start size)
-whole-is state position start size few first =
-    let changes : List (ℕ × Item) = feed (held state) position start in
-    let all : values_of changes ≡ first_of size changes =
-    sym (take_all size (values_of changes) (let same : length (values_of changes) ≡ length changes = length-values_of changes in omega arith)) in
-    let last : None ≡ last_of size changes = ap (λ b. cond b (Some (slice_index (keys_of changes) (size - 1))) None) (sym (not-less (length changes) size few)) in
-    let at : List Item → ℕ → Option ℕ → Reply = λ items epoch more. reply.Page (record { items = items; link = page_link epoch start (held state).number more }) in
-    λ i. at (all i) (sym first i) (last i)
-
-delta-reply : (state : State) (token : Option (List ℕ)) (given : Reply) → state.epoch ≡ 1 → state.floor ≡ 0 → state.plain ≡ false → given ≡ whole_delta (held state) token → is_no_page (Delta token) given ≡ false
-    → IsOwnReply state (Delta token) given
-delta-reply state token given first kept whole is page = elim (past-or-none state token first kept) [
-  | inl past ↦
-      let position : ℕ = past.0 in
-      let start : ℕ = past.1 in
-      let size : ℕ = max 1 (length (feed (held state) position start)) in
-      let same : given ≡ reply.Page (page_past state position start size) = is ∙ past.3 ∙ whole-is state position start size (omega arith) first in
-      record {
-        size = size;
-        fits = omega arith;
-        plain = whole;
-        reply_is = same ∙ sym (past-answer state size token position start whole past.2);
-        kind = ap may_answer_delta (is ∙ past.3);
-      }
-  | inr none ↦ absurd (let refused : is_no_page (Delta token) given ≡ true = ap (is_no_page (Delta token)) (is ∙ none.1) in cc)
-]
-
--- so such a request that is refused may not be served
-pub unservable : (state : State) (request : Request) (given : Reply) → state.epoch ≡ 1 → state.floor ≡ 0 → given ≡ answer_now state page_size request → is_no_page request given ≡ true → is_servable state request ≡ false
-unservable state (Delta token) given first kept is none = elim (past-or-none state token first kept) [
-  | inl past ↦ absurd (let page : is_no_page (Delta token) given ≡ false = ap (is_no_page (Delta token)) (is ∙ past.3) in cc)
-  | inr bad ↦ bad.0
-]
-unservable state request given first kept is none = absurd (cc none)
+-- and where one is
+pub delta-reply : (drive : DriveValue) (log : List Step) (lent : StoreValue) (token sent : Option (List ℕ)) (size : ℕ) (page : Page) → IsDriveOf drive log → lent ≡ drive.store → sent ≡ token → 1 ≤ size
+    → ((state : State) → StandsFor lent state.effects state.epoch state.floor → Serves (answer_to state size (asked state sent)) (Ok page)) → is_last page.link ≡ true → IsOwnReply (state_of log) (Delta token) (reply.Page page)
+delta-reply drive log lent token sent size page is same copied some serves last =
+    let state : State = state_of log in
+    let stands : StandsFor lent state.effects state.epoch state.floor = subst (λ s. StandsFor s state.effects state.epoch state.floor) (sym same) is.stands.store in
+    let P : Option (List ℕ) → Type 0 = λ t. Serves (answer_to state size (asked state t)) (Ok page) in
+    own-page state token size page is.plain some (subst P copied (serves state stands)) last
 
 -- the kinds of the other replies
 found-kind : (found : Option LiveItem) → may_answer_content (about found_reply found) ≡ true
@@ -205,12 +152,8 @@ download-unless : (state : State) (size : ℕ) (id : ItemId) (version : ℕ) (ca
 download-unless state size id version None has = bytes-kind (version_at id.0 version (held state))
 download-unless state size id version (Some cause) has = has
 
--- an answer of a drive that is not plain
-unshown : (state : State) (size : ℕ) (request : Request) → state.plain ≡ false → answer state size request ≡ answer_unless (refusal state request) state size request
-unshown state size request whole = ap (λ b. shown b (answer_unless (refusal state request) state size request)) whole
-
-other-kind : (state : State) (request : Request) (given : Reply) → state.plain ≡ false → ((token : Option (List ℕ)) → request ≡ Delta token → ⊥) → given ≡ answer_now state page_size request → may_answer request given ≡ true
-other-kind state (Delta token) given whole other is = absurd (other token refl)
+other-kind : (state : State) (request : Request) (given : Reply) → state.plain ≡ false → is_delta request ≡ false → given ≡ answer state page_size request → may_answer request given ≡ true
+other-kind state (Delta token) given whole other is = absurd (cc other)
 other-kind state (Content at) given whole other is =
     ap may_answer_content (is ∙ unshown state page_size (Content at) whole)
     ∙ content-unless state page_size at (refusal state (Content at)) (store-status (at_target (file_refusal (held state)) (target_of (held state) at)))
@@ -222,54 +165,57 @@ other-kind state request given whole other is = refl
 other-reply : (state : State) (request : Request) (given : Reply) → state.plain ≡ false → IsPageSize request page_size → given ≡ answer state page_size request → may_answer request given ≡ true → IsOwnReply state request given
 other-reply state request given whole fits is kind = record { size = page_size; fits = fits; plain = whole; reply_is = is; kind = kind }
 
-own-reply : (state : State) (request : Request) (given : Reply) → state.epoch ≡ 1 → state.floor ≡ 0 → state.plain ≡ false → given ≡ answer_now state page_size request → is_no_page request given ≡ false → IsOwnReply state request given
-own-reply state (Delta token) given first kept whole is page = delta-reply state token given first kept whole is page
-own-reply state request given first kept whole is page = other-reply state request given whole (omega arith, omega arith) is (other-kind state request given whole (λ token same. cc same) is)
+fits-size : (request : Request) → is_delta request ≡ false → IsPageSize request page_size
+fits-size (Delta token) other = absurd (cc other)
+fits-size request other = (omega arith, omega arith)
+
+own-reply : (state : State) (request : Request) (given : Reply) → state.plain ≡ false → is_delta request ≡ false → given ≡ answer state page_size request → IsOwnReply state request given
+own-reply state request given whole other is = other-reply state request given whole (fits-size request other) is (other-kind state request given whole other is)
 
 -- what the drive's call says of a reply that is no want of memory
 pub record IsServed (after : DriveValue) (log : List Step) (request : Request) (given : Reply) : Type 0 where
-  pub reply_is : given ≡ answer_now (state_of log) page_size request
+  pub reply_is : given ≡ answer (state_of log) page_size request
   pub stands : (who : Who) (heard : Bool) → Stands after (log ++ Ask who request true heard ∷ [])
 
-served-by : (before after : DriveValue) (log : List Step) (request : Request) (given : Reply) → before.size ≡ page_size → Handles before after log request given (answer_now (state_of log) before.size request)
+served-by : (before after : DriveValue) (log : List Step) (request : Request) (given : Reply) → before.size ≡ page_size → Handles before after log request given
     → is_want_of_memory given ≡ false → IsServed after log request given
 served-by before after log request given size handled memory = elim handled.answered [
-  | inl is ↦ record { reply_is = is.0 ∙ ap (λ n. answer_now (state_of log) n request) size; stands = is.1 }
+  | inl is ↦ record { reply_is = is.0 ∙ ap (λ n. answer (state_of log) n request) size; stands = is.1 }
   | inr is ↦ absurd (let wants : is_want_of_memory given ≡ true = ap is_want_of_memory is.0 in cc)
 ]
 
 module _ (before after : DriveValue) (log : List Step) (request : Request) (given : Reply) (drive : IsDriveOf before log)
-    (handled : (log : List Step) → Stands before log → is_about_session request ≡ false → Handles before after log request given (answer_now (state_of log) before.size request))
-    (plain : is_about_session request ≡ false) (memory : is_want_of_memory given ≡ false) where
+    (handled : (log : List Step) → Stands before log → Handles before after log request given) (memory : is_want_of_memory given ≡ false) where
   pub served : IsServed after log request given
-  served = served-by before after log request given drive.size (handled log drive.stands plain) memory
+  served = served-by before after log request given drive.size (handled log drive.stands) memory
 
-  pub replied : is_no_page request given ≡ false → IsOwnReply (state_of log) request given
-  replied page = own-reply (state_of log) request given drive.stands.epoch drive.stands.floor drive.stands.plain served.reply_is page
-
-  pub not-servable : is_no_page request given ≡ true → is_servable (state_of log) request ≡ false
-  not-servable none = unservable (state_of log) request given drive.stands.epoch drive.stands.floor served.reply_is none
+  pub replied : is_delta request ≡ false → IsOwnReply (state_of log) request given
+  replied other = own-reply (state_of log) request given drive.plain other served.reply_is
 
   pub one-more : after.size ≡ before.size → (who : Who) → IsDriveOf after (log ++ Ask who request true true ∷ [])
-  one-more size who = record { stands = served.stands who true; size = size ∙ drive.size }
+  one-more size who = record {
+    stands = served.stands who true;
+    size = size ∙ drive.size;
+    plain =
+        ap (λ (state : State). state.plain) (state-push log (Ask who request true true)) ∙ plain-kept (state_of log) who request true ∙ drive.plain;
+  }
+
+  pub logged : after.size ≡ before.size → (who : Who) (now more : List Step) (step : Step) (sent : Request) → now ≡ log → sent ≡ request → step ≡ Ask who sent true true → more ≡ now ++ step ∷ [] → IsDriveOf after more
+  logged size who now more step sent same copied made grown =
+      let all : more ≡ log ++ Ask who request true true ∷ [] =
+      grown ∙ ap (λ (l : List Step). l ++ step ∷ []) same ∙ ap (λ s. log ++ s ∷ []) (made ∙ ap (λ r. Ask who r true true) copied) in
+      subst (IsDriveOf after) (sym all) (one-more size who)
 
 -- a refusal leaves the drive as it was
 wants-refusal : (given : Reply) → is_want_of_memory given ≡ true → is_refusal given ≡ true
 wants-refusal (reply.Refused status code) is = refl
 wants-refusal given is = absurd (cc is)
 
-no-page-refusal : (request : Request) (given : Reply) → is_no_page request given ≡ true → is_refusal given ≡ true
-no-page-refusal (Delta token) (reply.Refused status code) is = refl
-no-page-refusal request given is = absurd (cc is)
-
 as-before : (before after : DriveValue) (log now : List Step) → IsDriveOf before log → after ≡ before → now ≡ log → IsDriveOf after now
 as-before before after log now drive same is = subst (λ l. IsDriveOf after l) (sym is) (subst (λ d. IsDriveOf d log) (sym same) drive)
 
 pub after-want : (before after : DriveValue) (log now : List Step) (given : Reply) → IsDriveOf before log → (is_refusal given ≡ true → after ≡ before) → is_want_of_memory given ≡ true → now ≡ log → IsDriveOf after now
 after-want before after log now given drive kept wants same = as-before before after log now drive (kept (wants-refusal given wants)) same
-
-pub after-no-page : (before after : DriveValue) (log now : List Step) (request : Request) (given : Reply) → IsDriveOf before log → (is_refusal given ≡ true → after ≡ before) → is_no_page request given ≡ true → now ≡ log → IsDriveOf after now
-after-no-page before after log now request given drive kept none same = as-before before after log now drive (kept (no-page-refusal request given none)) same
 
 -- a request about an upload session may not be served
 pub session-unservable : (state : State) (request : Request) → is_about_session request ≡ true → is_servable state request ≡ false

@@ -1,6 +1,6 @@
 -- How the world of a replay goes on by this client's requests: each that has a reply is served and heard, and one that has
 -- none is no step.
-use Rattle.std.proofs.Common.{◌≡◌, ℕ, ◌≤◌, true, List, [], ◌++◌, sym, ap, ◌∙◌, append_assoc, arith}
+use Rattle.std.proofs.Common.{◌≡◌, ◌≤◌, true, List, [], ◌++◌, sym, ap, ◌∙◌, append_assoc, arith}
 use Rattle.std.proofs.lemmas.List.{append-nil}
 use Rattle.gd_item.specs.declared.step.Step.{Step}
 use Rattle.gd_names.proofs.Each.{each-append}

@@ -1,11 +1,13 @@
 -- What a replay does: from the bytes that its source has left to those that its sink was given.
-use Rattle.std.specs.Prelude.{◌≡◌, ◌⊎◌, ℕ, ◌<◌, ◌≤◌, List, [], ◌∷◌, ◌++◌, length, take, codes, string_bytes, String, nat_eq, Bool, false, Option, Some, None, Result, Ok, Err}
-use Rattle.std.specs.Cmp.Lexicographic.{pointwise}
+use Rattle.std.specs.Prelude.{◌≡◌, ◌⊎◌, ℕ, ◌<◌, ◌≤◌, List, [], ◌∷◌, ◌++◌, length, take, map, codes, string_bytes, String, Bool, true, false, Option, Some, None, Result, Ok, Err}
 use Rattle.std.specs.Global.{Global}
 use Rattle.std.specs.Fmt.{decimal}
 use Rattle.od_cli.specs.declared.line.Line.{Line}
 use Rattle.od_cli.specs.Runs.{Played}
 use Rattle.od_cli.specs.Script.{script}
+use Rattle.od_words.specs.Commands.{command_of}
+use Rattle.od_words.specs.declared.command.Command.{Command}
+use Rattle.od_words.specs.declared.command.Command.TheVariants.{Sync, Monitor, Replay}
 
 -- how many bytes a script may have
 abbrev pub most_bytes : ℕ
@@ -64,11 +66,17 @@ pub record WritesPartOrNothing (text before after : Option (List ℕ)) : Type 0 
   pub told : (bytes written : List ℕ) → text ≡ Some bytes → before ≡ Some written
       → (after ≡ Some written) ⊎ ((output : List ℕ) × IsOutput bytes output × (n : ℕ) × (after ≡ Some (written ++ take n output)))
 
--- whether the words give the command: the one word `replay`
+-- whether a command is the replay of a script that is read; one that is generated is not run yet
+abbrev pub is_read_script : Option Command → Bool
+is_read_script None = false
+is_read_script (Some (Sync words)) = false
+is_read_script (Some (Monitor words times)) = false
+is_read_script (Some (Replay host None)) = true
+is_read_script (Some (Replay host (Some files))) = false
+
+-- whether the words give it
 abbrev pub is_replay : List (String Global) → Bool
-is_replay [] = false
-is_replay (word ∷ []) = pointwise nat_eq (string_bytes word) (codes "replay")
-is_replay (word ∷ next ∷ words) = false
+is_replay words = is_read_script (command_of (map string_bytes words))
 
 -- the line that is no script line, if there is one
 abbrev pub bad_line_of : Result (List Line) ℕ → Option ℕ

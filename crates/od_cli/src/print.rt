@@ -4,11 +4,11 @@ ghost use Rattle.std.specs.Fmt.{decimal};
 ghost use Rattle.gd_item.specs.Ids.{id_text};
 ghost use Rattle.gd_item.specs.Inventory.{Effect, inventory};
 ghost use Rattle.gd_item.specs.Versions.{content_at, version_at};
-ghost use Rattle.gd_store.specs.Stands.{Stands};
 ghost use Rattle.od_cli.specs.Played.{content_line, content_text, refusal_line};
 ghost use Rattle.od_cli.specs.Pulled.{item_line, shown_line, AreListed, IsFileAt, IsListed};
 ghost use Rattle.od_cli.specs.Replays.{bad_line_text};
 ghost use Rattle.od_cli.specs.Runs.{sync_text};
+ghost use Rattle.od_cli.specs.Worlds.{Holds};
 
 use crate::words::holds_plain;
 use gd_item::{ErrorCode, Item, ItemId, Kind, StoreFault, digest_of};
@@ -114,8 +114,8 @@ fn print_file(alloc: Global, out: &mut Bytes, path: &str, bytes: &[u8]) -> Resul
 
 /// The bytes that stand in a file, or why there are none: for want of memory alone, where it is a file.
 fn read_bytes(store: &Store, id: ItemId) -> Result<Bytes, StoreFault>
-    ensures found { IfOk result (λ bytes. (log : List Effect) → Stands store.now log → version_at id.0 (content_at id.0 (inventory log)) (inventory log) ≡ Some bytes) }
-    ensures there { (log : List Effect) → Stands store.now log → IsFileAt (inventory log) id.0 → IfErr result (λ fault. fault ≡ StoreFault.Memory) }
+    ensures found { IfOk result (λ bytes. (log : List Effect) → Holds store.now log → version_at id.0 (content_at id.0 (inventory log)) (inventory log) ≡ Some bytes) }
+    ensures there { (log : List Effect) → Holds store.now log → IsFileAt (inventory log) id.0 → IfErr result (λ fault. fault ≡ StoreFault.Memory) }
 {
     match store.content_number(id) {
         Ok(content) => store.version(id, content),
@@ -125,8 +125,8 @@ fn read_bytes(store: &Store, id: ItemId) -> Result<Bytes, StoreFault>
 
 /// The bytes that stand in a file.
 fn bytes_of(store: &Store, id: ItemId) -> Result<Bytes, NoMemory>
-    requires { (log : List Effect) × Stands store.now log × IsFileAt (inventory log) id.0 }
-    ensures { IfOk result (λ bytes. (log : List Effect) → Stands store.now log → version_at id.0 (content_at id.0 (inventory log)) (inventory log) ≡ Some bytes) }
+    requires { (log : List Effect) × Holds store.now log × IsFileAt (inventory log) id.0 }
+    ensures { IfOk result (λ bytes. (log : List Effect) → Holds store.now log → version_at id.0 (content_at id.0 (inventory log)) (inventory log) ≡ Some bytes) }
 {
     match read_bytes(store, id) {
         Ok(bytes) => Ok(bytes),
@@ -143,8 +143,8 @@ fn print_shown(
     path: &Path,
     item: &Item,
 ) -> Result<(), NoMemory>
-    requires { (log : List Effect) × Stands store.now log × IsListed (inventory log) item.now }
-    ensures { OnOk result ((log : List Effect) → Stands store.now log → out.new ≡ out.old ++ shown_line (inventory log) (path.now, item.now)) }
+    requires { (log : List Effect) × Holds store.now log × IsListed (inventory log) item.now }
+    ensures { OnOk result ((log : List Effect) → Holds store.now log → out.new ≡ out.old ++ shown_line (inventory log) (path.now, item.now)) }
 {
     let path = path.write(alloc)?;
     let path = path.as_str();
@@ -170,8 +170,8 @@ pub fn print_contents(
     store: &Store,
     items: &[(Path, Item)],
 ) -> Result<(), NoMemory>
-    requires { (log : List Effect) × Stands store.now log × AreListed (inventory log) items.now }
-    ensures { OnOk result ((log : List Effect) → Stands store.now log → out.new ≡ out.old ++ flat_map (shown_line (inventory log)) items.now) }
+    requires { (log : List Effect) × Holds store.now log × AreListed (inventory log) items.now }
+    ensures { OnOk result ((log : List Effect) → Holds store.now log → out.new ≡ out.old ++ flat_map (shown_line (inventory log)) items.now) }
 {
     for (path, item) in items {
         print_shown(alloc, out, store, path, item)?;

@@ -1,18 +1,16 @@
 ghost use Rattle.std.specs.Prelude.{◌≡◌, ◌++◌, [], List, None, OnOk, IfOk};
 ghost use Rattle.std.specs.Map.{values_of};
 ghost use Rattle.gd_item.specs.Inventory.{Effect, inventory};
-ghost use Rattle.gd_item.specs.Steps.{held_by};
-ghost use Rattle.gd_store.specs.Stands.{Stands};
 ghost use Rattle.od_cli.specs.Played.{drive_text};
 ghost use Rattle.od_cli.specs.Plays.{Plays};
 ghost use Rattle.od_cli.specs.Pulled.{whole_items, IsWhole};
-ghost use Rattle.od_cli.specs.Worlds.{with_other};
+ghost use Rattle.od_cli.specs.Worlds.{with_other, Holds};
 ghost use Rattle.od_mirror.specs.Pulled.{with_records, paths_of, taken_of};
 
 use crate::line::Line;
 use crate::print::{print_contents, print_items, print_number};
 use crate::world::World;
-use gd_item::{Item, Page, PageLink, Reply, Request};
+use gd_item::{Item, Page, PageLink};
 use gd_names::{Bytes, List, NoMemory, Path, Text};
 use gd_store::Store;
 use od_mirror::{Mirror, MirrorView, PullFault, Taken};
@@ -45,24 +43,12 @@ fn paths_in(alloc: Global, page: &Page) -> Result<List<(Path, Item)>, NoMemory>
     Ok(paths)
 }
 
-/// The page that another client gets for a fresh enumeration.
-fn ask_page(world: &mut World) -> Result<Page, NoMemory>
-    ensures whole { IfOk result (λ page. IsWhole page) }
-    ensures items { IfOk result (λ page. page.items ≡ whole_items (held_by world.old.log)) }
-    ensures log { IfOk result (λ page. world.new ≡ record world.old { log = with_other world.old.log (Request.Delta None) }) }
-{
-    match world.other(Request::Delta { token: None })? {
-        Reply::Page(page) => Ok(page),
-        _ => unreachable!(),
-    }
-}
-
 /// A fresh pull by another client, without a database, and what it prints.
 pub fn print_pull(alloc: Global, world: &mut World, out: &mut Bytes) -> Result<(), NoMemory>
     ensures { OnOk result (Plays world.old world.new out.old out.new Line.Pull) }
 {
     let number = world.store().number();
-    let page = ask_page(world)?;
+    let page = world.enumerate(alloc)?;
     let paths = paths_in(alloc, &page)?;
     print_number(alloc, out, "pull", number)?;
     print_items(alloc, out, paths.as_slice())
@@ -70,7 +56,7 @@ pub fn print_pull(alloc: Global, world: &mut World, out: &mut Bytes) -> Result<(
 
 /// The one page of a fresh enumeration, from the drive's own store; its link is of no use.
 fn make_page(alloc: Global, store: &Store) -> Result<Page, NoMemory>
-    ensures items { IfOk result (λ page. (log : List Effect) → Stands store.now log → page.items ≡ whole_items (inventory log)) }
+    ensures items { IfOk result (λ page. (log : List Effect) → Holds store.now log → page.items ≡ whole_items (inventory log)) }
     ensures last { IfOk result (λ page. taken_of page.link ≡ Taken.Last) }
 {
     let number = store.number();
@@ -88,8 +74,8 @@ fn make_page(alloc: Global, store: &Store) -> Result<Page, NoMemory>
 
 /// The drive's change number, and its tree with contents.
 fn print_store(alloc: Global, store: &Store, out: &mut Bytes) -> Result<(), NoMemory>
-    requires { (log : List Effect) × Stands store.now log }
-    ensures { OnOk result ((log : List Effect) → Stands store.now log → out.new ≡ out.old ++ drive_text (inventory log)) }
+    requires { (log : List Effect) × Holds store.now log }
+    ensures { OnOk result ((log : List Effect) → Holds store.now log → out.new ≡ out.old ++ drive_text (inventory log)) }
 {
     let page = make_page(alloc, store)?;
     let paths = paths_in(alloc, &page)?;

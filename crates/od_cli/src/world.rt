@@ -1,15 +1,15 @@
-ghost use Rattle.std.specs.Prelude.{◌≡◌, ◌≤◌, [], true, false, IfOk, IsErrOf};
+ghost use Rattle.std.specs.Prelude.{◌≡◌, ◌≤◌, [], true, false, None, IfOk, IsErrOf};
+ghost use Rattle.gd_item.specs.Answers.{answer};
 ghost use Rattle.gd_item.specs.Sound.{IsItemMap};
 ghost use Rattle.gd_item.specs.Steps.{state_of, held_by};
-ghost use Rattle.gd_api.specs.Drives.{is_about_session};
-ghost use Rattle.gd_api.specs.WholePage.{answer_now};
-ghost use Rattle.gd_store.specs.Stands.{Stands};
 ghost use Rattle.od_transfer.specs.Undisturbed.{is_servable};
-ghost use Rattle.od_cli.specs.Worlds.{page_size, heard, is_no_page, is_want_of_memory, unheard, with_other, IsOwnReply};
+ghost use Rattle.od_cli.specs.Pulled.{whole_items, IsWhole};
+ghost use Rattle.od_cli.specs.Worlds.{page_size, heard, is_about_session, is_delta, is_want_of_memory, unheard, with_other, Holds, IsOwnReply};
 
 use gd_api::Drive;
-use gd_item::{Reply, Request, Step, Who};
-use gd_names::{List, NoMemory};
+use gd_delta::{DeltaFault, page};
+use gd_item::{Page, Reply, Request, Step, Who};
+use gd_names::{List, NoMemory, Text};
 use gd_store::Store;
 use od_transfer::{AskFault, Carrier, Job, Outcome, Remote, carry_each};
 use std::alloc::Global;
@@ -18,8 +18,8 @@ use std::marker::Model;
 /// How many items a list of the drive has at most.
 const PAGE_SIZE: u64 = 200;
 
-/// A drive in memory with its log, which other clients and this one ask. It has no reply for this client where the drive does
-/// not serve a token, and for requests about upload sessions.
+/// A drive in memory with its log, which other clients and this one ask. Changes come in one page, however many they are. It
+/// has no reply for this client where the drive does not serve a token, and for requests about upload sessions.
 #[derive(Debug, Drop)]
 pub struct World {
     drive: Drive,
@@ -56,7 +56,7 @@ impl World {
 
     /// The store of the drive.
     pub fn store(&self) -> &Store
-        ensures { Stands result.now (state_of self.now.log).effects }
+        ensures { Holds result.now (state_of self.now.log).effects }
     {
         self.drive.store()
     }
@@ -70,10 +70,8 @@ impl World {
 
     /// Another client asks the drive.
     pub fn other(&mut self, request: Request) -> Result<Reply, NoMemory>
-        requires { is_about_session request ≡ false }
-        ensures reply { IfOk result (λ reply. reply ≡ answer_now (state_of self.old.log) page_size request) }
+        ensures reply { IfOk result (λ reply. reply ≡ answer (state_of self.old.log) page_size request) }
         ensures log { IfOk result (λ reply. self.new ≡ record self.old { log = with_other self.old.log request }) }
-        ensures sound { IfOk result (λ reply. IsItemMap (held_by self.old.log)) }
     {
         self.log.reserve(1)?;
         let reply = self.drive.handle(&request);
@@ -95,8 +93,56 @@ impl World {
         AskFault::Failed
     }
 
-    /// This client asks the drive.
-    fn own(&mut self, request: &Request) -> Result<Reply, AskFault>
+    /// Another client asks for all that lives.
+    pub fn enumerate(&mut self, alloc: Global) -> Result<Page, NoMemory>
+        ensures whole { IfOk result (λ page. IsWhole page) }
+        ensures items { IfOk result (λ page. page.items ≡ whole_items (held_by self.old.log)) }
+        ensures log { IfOk result (λ page. self.new ≡ record self.old { log = with_other self.old.log (Request.Delta None) }) }
+    {
+        self.log.reserve(1)?;
+        match page(alloc, self.drive.store(), None, u64::MAX) {
+            Ok(page) => {
+                let request = Request::Delta { token: None };
+                self.log.push_reserved(heard_step(Who::Other, request));
+                Ok(page)
+            }
+            // What no token asks for is there, so memory is wanting.
+            Err(_) => Err(NoMemory),
+        }
+    }
+
+    /// This client asks for changes.
+    fn own_delta(&mut self, alloc: Global, token: &Option<Text>) -> Result<Reply, AskFault>
+        ensures ok { IfOk result (λ reply. IsOwnReply (state_of self.old.log) (Request.Delta token.now) reply × (self.new ≡ heard self.old (Request.Delta token.now))) }
+        ensures failed { IsErrOf result AskFault.Failed → (is_servable (state_of self.old.log) (Request.Delta token.now) ≡ false) × (self.new ≡ unheard self.old) }
+        ensures memory { IsErrOf result AskFault.Memory → self.new ≡ self.old }
+        ensures faults { self.old.faults ≤ self.new.faults }
+        ensures answers { self.old.answers ≤ self.new.answers }
+    {
+        let Ok(sent) = copy_token(token) else {
+            return Err(AskFault::Memory);
+        };
+        match self.log.reserve(1) {
+            Ok(()) => {}
+            Err(_) => return Err(AskFault::Memory),
+        }
+        match page(alloc, self.drive.store(), token.as_ref(), u64::MAX) {
+            Ok(page) => {
+                let request = Request::Delta { token: sent };
+                self.log.push_reserved(heard_step(Who::Own, request));
+                self.answers = self.answers.saturating_add(1);
+                self.in_row = 0;
+                Ok(Reply::Page(page))
+            }
+            Err(DeltaFault::Memory) => Err(AskFault::Memory),
+            Err(DeltaFault::BadToken) => Err(self.fail()),
+            Err(DeltaFault::Gone(_)) => Err(self.fail()),
+        }
+    }
+
+    /// This client asks for something else.
+    fn own_other(&mut self, request: &Request) -> Result<Reply, AskFault>
+        requires { is_delta request.now ≡ false }
         ensures ok { IfOk result (λ reply. IsOwnReply (state_of self.old.log) request.now reply × (self.new ≡ heard self.old request.now)) }
         ensures failed { IsErrOf result AskFault.Failed → (is_servable (state_of self.old.log) request.now ≡ false) × (self.new ≡ unheard self.old) }
         ensures memory { IsErrOf result AskFault.Memory → self.new ≡ self.old }
@@ -117,13 +163,34 @@ impl World {
         if is_want_of_memory(&reply) {
             return Err(AskFault::Memory);
         }
-        if is_no_page(request, &reply) {
-            return Err(self.fail());
-        }
         self.log.push_reserved(heard_step(Who::Own, sent));
         self.answers = self.answers.saturating_add(1);
         self.in_row = 0;
         Ok(reply)
+    }
+
+    /// This client asks the drive.
+    fn own(&mut self, alloc: Global, request: &Request) -> Result<Reply, AskFault>
+        ensures ok { IfOk result (λ reply. IsOwnReply (state_of self.old.log) request.now reply × (self.new ≡ heard self.old request.now)) }
+        ensures failed { IsErrOf result AskFault.Failed → (is_servable (state_of self.old.log) request.now ≡ false) × (self.new ≡ unheard self.old) }
+        ensures memory { IsErrOf result AskFault.Memory → self.new ≡ self.old }
+        ensures faults { self.old.faults ≤ self.new.faults }
+        ensures answers { self.old.answers ≤ self.new.answers }
+    {
+        match request {
+            Request::Delta { token } => self.own_delta(alloc, token),
+            _ => self.own_other(request),
+        }
+    }
+}
+
+/// A copy of a token that may be there.
+fn copy_token(token: &Option<Text>) -> Result<Option<Text>, NoMemory>
+    ensures { IfOk result (λ copy. copy ≡ token.now) }
+{
+    match token {
+        Some(text) => Ok(Some(text.clone()?)),
+        None => Ok(None),
     }
 }
 
@@ -163,16 +230,6 @@ fn is_want_of_memory(reply: &Reply) -> bool
     }
 }
 
-/// Whether a request asks for changes, and the reply is a refusal.
-fn is_no_page(request: &Request, reply: &Reply) -> bool
-    ensures { result ≡ is_no_page request.now reply.now }
-{
-    match request {
-        Request::Delta { token: _ } => matches!(reply, Reply::Refused { .. }),
-        _ => false,
-    }
-}
-
 impl Remote for World {
     ghost use Rattle.std.specs.Prelude.{Some, true};
     ghost use Rattle.od_cli.specs.GoingOn.{GoesOn, world_stays, world_further, world_later};
@@ -195,8 +252,8 @@ impl Remote for World {
 
     ghost goes_later = { world_later };
 
-    fn ask(&mut self, _alloc: Global, request: &Request) -> Result<Reply, AskFault> {
-        match self.own(request) {
+    fn ask(&mut self, alloc: Global, request: &Request) -> Result<Reply, AskFault> {
+        match self.own(alloc, request) {
             Ok(reply) => Ok(reply),
             Err(fault) => Err(fault),
         }

@@ -250,6 +250,30 @@ fn the_feed_comes_in_pages(rt: HostRuntime) -> Result<(), Fail> {
     Ok(())
 }
 
+/// So many files in the root, in pages of 200.
+fn many_files(alloc: Global, count: u64) -> Result<Drive, Fail> {
+    let mut drive = Drive::new(alloc, 200)?;
+    for number in 0..count {
+        let at = format!(in alloc; "/{number}")?;
+        put(alloc, &mut drive, at.as_str(), b"1")?;
+    }
+    Ok(drive)
+}
+
+#[test]
+fn a_page_has_two_hundred_items(rt: HostRuntime) -> Result<(), Fail> {
+    let alloc = rt.alloc();
+    let mut drive = many_files(alloc, 199)?;
+    let whole = page_end(alloc, &mut drive, "")?;
+    assert_eq!(rt; whole.as_str(), "200 delta t1.200.200");
+    put(alloc, &mut drive, "/more", b"1")?;
+    let first = page_end(alloc, &mut drive, "")?;
+    assert_eq!(rt; first.as_str(), "200 next t1.200.201");
+    let second = page_end(alloc, &mut drive, "t1.200.201")?;
+    assert_eq!(rt; second.as_str(), "1 delta t1.201.201");
+    Ok(())
+}
+
 #[test]
 fn tokens_of_before_are_gone(rt: HostRuntime) -> Result<(), Fail> {
     let alloc = rt.alloc();

@@ -1,4 +1,3 @@
-use Rattle.std.proofs.Common.{rules}
 use Rattle.std.proofs.Common.{ap, sym, ◌∙◌}
 use Rattle.gd_item.specs.Inventory.{inventory}
 use Rattle.gd_item.specs.Targets.{place_of}

@@ -1,4 +1,3 @@
-use Rattle.std.proofs.Common.{rules}
 use Rattle.gd_api.proofs.Sending.{begun-told}
 use Rattle.gd_api.proofs.uploads.begin.Goals as goal
 

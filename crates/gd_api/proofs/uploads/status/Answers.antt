@@ -1,4 +1,3 @@
-use Rattle.std.proofs.Common.{rules}
 use Rattle.gd_item.specs.Sessions.{session_at}
 use Rattle.gd_api.proofs.Sending.{status-given, refused-given}
 use Rattle.gd_api.proofs.uploads.status.Goals as goal

@@ -1,4 +1,3 @@
-use Rattle.std.proofs.Common.{ap, ◌∙◌, set}
 use Rattle.gd_upload.proofs.Writing.{written-found}
 use Rattle.gd_upload.proofs.append.append.Goals as goal
 

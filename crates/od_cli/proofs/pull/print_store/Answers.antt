@@ -1,7 +1,7 @@
 use Rattle.std.proofs.Common.{◌≡◌, ◌++◌, List}
 use Rattle.std.specs.List.{flat_map}
 use Rattle.gd_item.specs.Inventory.{Effect, inventory}
-use Rattle.gd_store.specs.Stands.{Stands}
+use Rattle.od_cli.specs.Worlds.{Holds}
 use Rattle.od_cli.specs.Played.{drive_text}
 use Rattle.od_cli.specs.Pulled.{shown_line}
 use Rattle.od_cli.proofs.Asking.{ok-gives}
@@ -23,7 +23,7 @@ print_contents-requires c = (
 
 pub returns : goal.returns
 returns c =
-    ok-gives c.print_contents.result ((log : List Effect) → Stands c.args.store.now log → c.print_contents.new.out ≡ c.print_number.new.out ++ flat_map (shown_line (inventory log)) c.as_slice.result.now)
-    ((log : List Effect) → Stands c.args.store.now log → c.print_contents.new.out ≡ c.args.out.now ++ drive_text (inventory log)) c.print_contents.ensures
+    ok-gives c.print_contents.result ((log : List Effect) → Holds c.args.store.now log → c.print_contents.new.out ≡ c.print_number.new.out ++ flat_map (shown_line (inventory log)) c.as_slice.result.now)
+    ((log : List Effect) → Holds c.args.store.now log → c.print_contents.new.out ≡ c.args.out.now ++ drive_text (inventory log)) c.print_contents.ensures
     (λ printed log stands. store-printed c.args.store.now log c.in_ok-page.page.items c.in_ok-paths.paths c.as_slice.result.now c.number.result c.args.out.now c.print_number.new.out c.print_contents.new.out stands
-    (c.in_ok-page.ensures.items log stands) c.in_ok-paths.ensures c.as_slice.ensures (c.number.ensures log stands) c.in_ok-print_number.ensures (printed log stands))
+    (c.in_ok-page.ensures.items log stands) c.in_ok-paths.ensures c.as_slice.ensures (c.number.ensures log stands.0 stands.1 stands.2) c.in_ok-print_number.ensures (printed log stands))

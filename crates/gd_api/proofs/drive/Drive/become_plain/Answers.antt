@@ -1,5 +1,4 @@
-use Rattle.std.proofs.Common.{length, refl}
-use Rattle.gd_item.specs.Steps.{state_of}
+use Rattle.std.proofs.Common.{refl}
 use Rattle.gd_item.specs.declared.step.DriveEvent.TheVariants.{Plain}
 use Rattle.gd_api.proofs.Handling.{event-stood}
 use Rattle.gd_api.proofs.drive.Drive.become_plain.Goals as goal

@@ -1,7 +1,6 @@
-use Rattle.std.proofs.Common.{ℕ, List, Option, refl, ap, ◌∙◌, subst, ◌<◌, ◌≤◌, arith}
+use Rattle.std.proofs.Common.{ℕ, List, Option, ap, ◌∙◌}
 use Rattle.gd_item.specs.Answers.{delta_reply}
 use Rattle.gd_item.specs.Pages.{asked}
-use Rattle.gd_item.specs.Sessions.{held}
 use Rattle.gd_item.specs.Steps.{state_of}
 use Rattle.gd_item.specs.declared.request.Request.TheVariants.{Delta}
 use Rattle.gd_api.proofs.Asking.{delta-answered}

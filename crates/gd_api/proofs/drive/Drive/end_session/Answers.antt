@@ -1,4 +1,4 @@
-use Rattle.std.proofs.Common.{length, refl}
+use Rattle.std.proofs.Common.{length}
 use Rattle.gd_item.specs.Steps.{state_of}
 use Rattle.gd_item.specs.declared.step.DriveEvent.TheVariants.{EndSession}
 use Rattle.gd_api.proofs.Handling.{event-stood}

@@ -1,4 +1,3 @@
-use Rattle.std.proofs.Common.{rules}
 use Rattle.std.proofs.Common.{length, Ok, refl, ap, subst}
 use Rattle.gd_item.specs.Sessions.{held}
 use Rattle.gd_item.specs.Steps.{state_of}

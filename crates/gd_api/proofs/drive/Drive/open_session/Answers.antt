@@ -1,4 +1,3 @@
-use Rattle.std.proofs.Common.{rules}
 use Rattle.std.proofs.Common.{ℕ, List, Option, length, ap, sym, ◌∙◌}
 use Rattle.gd_item.specs.Refused.{is_unlike}
 use Rattle.gd_item.specs.Steps.{state_of}

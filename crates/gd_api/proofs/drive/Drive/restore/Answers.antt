@@ -1,4 +1,3 @@
-use Rattle.std.proofs.Common.{length, refl}
 use Rattle.gd_item.specs.Steps.{state_of}
 use Rattle.gd_item.specs.declared.step.DriveEvent.TheVariants.{Restore}
 use Rattle.gd_api.proofs.Handling.{event-stood}

@@ -1,4 +1,3 @@
-use Rattle.std.proofs.Common.{rules}
 use Rattle.std.proofs.Common.{subst, sym}
 use Rattle.gd_item.specs.Steps.{state_of}
 use Rattle.gd_api.specs.Drives.{Has}

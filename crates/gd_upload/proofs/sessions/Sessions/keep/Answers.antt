@@ -1,4 +1,4 @@
-use Rattle.std.proofs.Common.{◌≤◌, ◌+◌, List, length, ap, sym, ◌∙◌, subst}
+use Rattle.std.proofs.Common.{◌≤◌, ◌+◌, length, sym, subst}
 use Rattle.gd_item.specs.Sessions.{held_bytes}
 use Rattle.gd_upload.specs.Stands.{SessionsValue}
 use Rattle.gd_upload.proofs.Writing.{kept-within}

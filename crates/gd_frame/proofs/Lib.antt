@@ -1,0 +1,6 @@
+pub mod Fields
+pub mod Heads
+pub mod Rooms
+pub mod Streams
+pub mod Feeds
+pub mod Targets

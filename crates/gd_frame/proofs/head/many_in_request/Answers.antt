@@ -1,0 +1,6 @@
+use Rattle.std.proofs.Common.{ap, arith, Err}
+use Rattle.gd_frame.proofs.Rooms.{room_for_request}
+use Rattle.gd_frame.proofs.head.many_in_request.Goals as goal
+
+pub unreachable-requires : goal.unreachable-requires
+unreachable-requires c = room_for_request c.args.bytes.now (omega (arith, c.if-bytes-ge-MAX_HEAD.false)) (c.in-Err-TooManyHeaders.ensures.too_many (ap Err c.in-Err-TooManyHeaders.field-0-is))

@@ -1,0 +1,9 @@
+use Rattle.gd_frame.specs.declared.message.Kind.TheVariants.{Reply}
+use Rattle.gd_frame.specs.Syntax.{replies}
+use Rattle.gd_frame.specs.Frames.{IsReply}
+use Rattle.gd_frame.proofs.Heads.{plain}
+use Rattle.gd_frame.proofs.Feeds.{one_reply, whole_done}
+use Rattle.gd_frame.proofs.laws.whole_reply_done.Goals as goal
+
+pub returns : goal.returns
+returns c = whole_done replies (plain Reply) IsReply (λ bytes f x. x.0) one_reply

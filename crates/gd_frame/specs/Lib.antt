@@ -1,0 +1,11 @@
+pub mod Framing
+pub mod Syntax
+pub mod Messages
+pub mod Frames
+pub mod Reading
+pub mod Feeding
+pub mod Splitting
+pub mod Ends
+pub mod Scanning
+pub mod Laws
+pub mod Targets

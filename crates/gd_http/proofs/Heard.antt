@@ -1,0 +1,40 @@
+-- What a reader of frames gives, heard as messages.
+use Rattle.std.proofs.Common.{◌≡◌, ℕ, ◌+◌, ◌-◌, ◌^◌, min, List, Some, None, Ok, refl, length}
+use Rattle.gd_frame.specs.declared.frame.RequestFrame.{RequestFrame}
+use Rattle.gd_frame.specs.declared.step.ReadState.TheVariants as state
+use Rattle.gd_item.specs.declared.reply.Reply.{Reply}
+use Rattle.gd_frame.specs.declared.frame.ReplyFrame.{ReplyFrame}
+use Rattle.gd_frame.specs.declared.message.MessageCause.TheVariants.{Meaning}
+use Rattle.gd_frame.specs.declared.step.ReadStep.TheVariants.{Need, Done, Bad}
+use Rattle.gd_frame.specs.Frames.{IsRequest, IsReply}
+use Rattle.gd_frame.specs.Feeding.{Feeds}
+use Rattle.gd_frame.specs.Reading.{Reading}
+use Rattle.gd_frame.specs.Syntax.{requests, replies}
+use Rattle.gd_http.specs.declared.incoming.Incoming.{Incoming}
+use Rattle.gd_http.specs.Hearing.{incoming_of_frame, RequestBytes, Hears}
+use Rattle.gd_http.specs.HearingReplies.{Listening, reply_of_frame, HearsReply}
+
+pub need_heard : (old new : Reading) (piece : List ℕ) → Feeds requests IsRequest old piece (Ok Need) new → Hears RequestBytes old piece (Ok Need) new
+need_heard old new piece fed = record { bytes = fed.bytes; state = fed.state; place = fed.place }
+
+pub done_heard : (old new : Reading) (piece : List ℕ) (frame : RequestFrame) (message : Incoming) (used : ℕ) → message ≡ incoming_of_frame frame
+    → Feeds requests IsRequest old piece (Ok (Done frame used)) new → Hears RequestBytes old piece (Ok (Done message used)) new
+done_heard old new piece frame message used is fed = record { bytes = (fed.bytes.0, (frame, fed.bytes.1, is), fed.bytes.2); state = fed.state; place = fed.place }
+
+-- ---- the same of replies, where a reader counts its places itself
+
+pub need_told : (l : Listening) (frames new : Reading) (piece : List ℕ) → l.reading.held ≡ frames.held → Feeds replies IsReply frames piece (Ok Need) new
+    → HearsReply l piece (Ok Need) (record { held = new.held; place = l.reading.place; state = new.state })
+need_told l frames new piece same fed = record { bytes = rw same fed.bytes; state = fed.state; place = refl }
+
+pub done_told : (l : Listening) (frames new : Reading) (piece : List ℕ) (frame : ReplyFrame) (reply : Reply) (used place : ℕ) → l.reading.held ≡ frames.held
+    → reply_of_frame l frame ≡ Some reply → place ≡ min (l.reading.place + (length l.reading.held + used)) (2 ^ 64 - 1) → Feeds replies IsReply frames piece (Ok (Done frame used)) new
+    → HearsReply l piece (Ok (Done reply used)) (record { held = new.held; place = place; state = new.state })
+done_told l frames new piece frame reply used place same is at fed =
+    record { bytes = (fed.bytes.0, rw same (frame, fed.bytes.1, is), fed.bytes.2); state = fed.state; place = at }
+
+pub meaning_told : (l : Listening) (frames new : Reading) (piece : List ℕ) (frame : ReplyFrame) (used : ℕ) → l.reading.held ≡ frames.held
+    → reply_of_frame l frame ≡ None → Feeds replies IsReply frames piece (Ok (Done frame used)) new
+    → HearsReply l piece (Ok (Bad l.reading.place Meaning)) (record { held = new.held; place = l.reading.place; state = state.Bad Meaning })
+meaning_told l frames new piece frame used same is fed =
+    record { bytes = (refl, (used, fed.bytes.0, rw same (frame, fed.bytes.1, is)), fed.bytes.2); state = refl; place = refl }

@@ -1,0 +1,12 @@
+use Rattle.std.proofs.Common.{◌≡◌, ◌≤◌, ◌++◌, length}
+use Rattle.std.specs.Map.{values_of}
+use Rattle.std.specs.declared.ops.Bound.TheVariants.{Unbounded}
+use Rattle.std.specs.BTreeMap.Range.{entries_between}
+use Rattle.gd_index.specs.Indexed.{spot_cmp, while_in}
+use Rattle.gd_index.proofs.index.ranges.numbers_from.Given as goal
+
+abbrev pub invariant-loop-spot : goal.invariant-loop-spot
+invariant-loop-spot l = record {
+  within : length l.numbers.items ≤ l.most;
+  whole : l.numbers.items ++ values_of (while_in l.parent l.spot-iterator) ≡ values_of (while_in l.parent (entries_between spot_cmp l.fn.start Unbounded l.names.entries));
+}

@@ -1,0 +1,5 @@
+pub mod Cuts
+pub mod Faults
+pub mod Queries
+pub mod Resources
+pub mod Targets
