@@ -14,10 +14,12 @@ fn is_command(alloc: Global, words: &[String]) -> Result<bool, NoMemory>
     ensures { IfOk result (λ is. is ≡ is_replay words.now) }
 {
     match read_words(alloc, words) {
-        Ok(Command::Replay {
-            host: _,
-            generate: None,
-        }) => Ok(true),
+        Ok(
+            Command::Replay {
+                host: _,
+                generate: None,
+            },
+        ) => Ok(true),
         Ok(_) => Ok(false),
         Err(UsageFault::Usage) => Ok(false),
         Err(UsageFault::Memory) => Err(NoMemory),
