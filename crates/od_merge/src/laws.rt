@@ -1,0 +1,58 @@
+ghost use Rattle.std.specs.Prelude.{◌≡◌, ℕ, is_some, List, [], true, false, length, nat_lt, Option, Some, None, Bool};
+ghost use Rattle.od_merge.specs.Sides.{Sides, at, is_below, is_file, is_from, is_kept_there, same};
+ghost use Rattle.od_merge.specs.Merging.{both_paths, is_conflict, is_going, is_left, renamed, target, why_held, Limits};
+ghost use Rattle.od_merge.specs.Steps.{done, is_fetched, is_sent, stands, steps_here, steps_there, Fits, IsClear, IsCopying, IsDriveTree, IsMerged};
+ghost use Rattle.od_merge.specs.Core.{core, is_in, IsTree};
+
+use crate::content::Content;
+
+/// Doing the steps makes the local side the target at each path that is kept and no conflict; what is skipped there
+/// and a folder that does not go stay.
+pub fn steps_here_make_the_target()
+    ensures { (s : Sides) → Fits s → (path : List (List ℕ)) → IsClear s path → is_in path (both_paths s) ≡ true
+        → done (steps_here s) path (at s.local path) ≡ stands s s.local path }
+{}
+
+/// The same of the drive, at each path that is not held.
+pub fn steps_there_make_the_target()
+    ensures { (s : Sides) → Fits s → (is_held : List (List ℕ) → Bool) → (path : List (List ℕ)) → IsClear s path → is_held path ≡ false → is_in path (both_paths s) ≡ true
+        → done (steps_there is_held s) path (at s.remote path) ≡ stands s s.remote path }
+{}
+
+/// Where the local side is as the base, the drive is the target.
+pub fn drive_alone_is_the_target()
+    ensures { (base local remote : List (List (List ℕ) × Content)) → IsTree remote → ((path : List (List ℕ)) → same (at local path) (at base path) ≡ true)
+        → (path : List (List ℕ)) → nat_lt 0 (length path) ≡ true → target (core base local remote) path ≡ at remote path }
+{}
+
+/// Where the drive is as the base, the local side is the target.
+pub fn user_alone_is_the_target()
+    ensures { (base local remote : List (List (List ℕ) × Content)) → IsTree local → ((path : List (List ℕ)) → same (at remote path) (at base path) ≡ true)
+        → (path : List (List ℕ)) → nat_lt 0 (length path) ≡ true → target (core base local remote) path ≡ at local path }
+{}
+
+/// Where both sides are the same, they are the target, whatever the base is.
+pub fn same_sides_are_the_target()
+    ensures { (base tree : List (List (List ℕ) × Content)) → IsTree tree → (path : List (List ℕ)) → nat_lt 0 (length path) ≡ true → target (core base tree tree) path ≡ at tree path }
+{}
+
+/// Then there is nothing to do.
+pub fn same_sides_have_no_steps()
+    ensures here { (base tree : List (List (List ℕ) × Content)) → IsTree tree → steps_here (core base tree tree) ≡ [] }
+    ensures there { (base tree : List (List (List ℕ) × Content)) → IsTree tree → steps_there (λ path. false) (core base tree tree) ≡ [] }
+{}
+
+/// Conflicts that are moved to paths beside them, which the drive does not have, leave no conflict, and make none.
+pub fn renames_leave_no_conflict()
+    ensures { (s : Sides) → IsDriveTree s.remote
+        → (copy : List (List (List ℕ)) → List (List ℕ) → Option (List (List ℕ))) → IsCopying copy
+        → (path : List (List ℕ)) → is_left (renamed copy s) path ≡ false → is_conflict (renamed copy s) path ≡ false }
+{}
+
+/// After the renames the plan's steps make both sides the target: at each path that is kept and not at or below a conflict
+/// that is left, and on the drive at each that is not held.
+pub fn plan_makes_the_target()
+    ensures { (s : Sides) → IsDriveTree s.remote → (copy : List (List (List ℕ)) → List (List ℕ) → Option (List (List ℕ))) → IsCopying copy → (limits : Limits)
+        → (path : List (List ℕ)) → is_kept_there (renamed copy s) path ≡ true → is_left (renamed copy s) path ≡ false → is_in path (both_paths (renamed copy s)) ≡ true
+        → IsMerged (λ other. is_some (why_held limits (renamed copy s) other)) (renamed copy s) path }
+{}
