@@ -31,7 +31,7 @@ module _ (copy : List Path → Path → Option Path) (copying : IsCopying copy) 
 
   taken-more : (x : Option Path) (taken : List Path) → ((p : Path) → is_some (at s.remote p) ≡ true → is_in p taken ≡ true) → (p : Path) → is_some (at s.remote p) ≡ true → is_in p (and_taken x taken) ≡ true
   taken-more None taken all p some = all p some
-  taken-more (Some to) taken all p some = or_right (is_path p to) (is_in p taken) (all p some)
+  taken-more (Some to) taken all p some = in-joined p taken (to ∷ []) ∙ or_left (is_in p taken) (is_in p (to ∷ [])) (all p some)
 
   are-copies : (taken paths : List Path) → ((p : Path) → is_some (at s.remote p) ≡ true → is_in p taken ≡ true) → ((p : Path) → is_in p paths ≡ true → is_conflict s p ≡ true) → AreCopies s (moves_of (copied copy taken paths))
   are-copies taken [] all each = tt

@@ -1,6 +1,6 @@
 -- Paths, and which of them are in lists.
-use Rattle.std.proofs.Common.{◌≡◌, ℕ, Bool, true, false, not, ◌&&◌, ◌||◌, cond, List, [], ◌∷◌, ◌++◌, length, map, filter, find, drop, is_some, nat_eq, nat_lt, Option, Some, None, refl, ap, sym, subst, ◌∙◌, arith}
-use Rattle.std.proofs.lemmas.Bool.{eq-eqb, and_parts, and_from, or_parts, false≢true, true≢false, cases_Bool}
+use Rattle.std.proofs.Common.{◌≡◌, ◌≢◌, ℕ, zero, suc, ◌+◌, Bool, true, false, not, ◌&&◌, ◌||◌, cond, List, [], ◌∷◌, ◌++◌, length, map, filter, find, drop, is_some, nat_eq, nat_lt, Option, Some, None, refl, ap, sym, subst, ◌∙◌, arith}
+use Rattle.std.proofs.lemmas.Bool.{eq-eqb, eqb-true, and_left, and_parts, and_from, or_parts, false≢true, true≢false, false_from_ne_true, lt-ltb, ltb-true}
 use Rattle.std.specs.Cmp.Lexicographic.{pointwise, same_text, slice_cmp}
 use Rattle.std.specs.List.{list_any, list_all}
 use Rattle.std.specs.BTreeSet.{insert_key}
@@ -12,7 +12,7 @@ use Rattle.od_merge.specs.declared.content.Content.{Content}
 use Rattle.od_merge.specs.Sides.{at, is_path, is_from, paths_of}
 use Rattle.gd_names.specs.Ordered.{path_cmp}
 use Rattle.od_merge.specs.Merging.{in_order_from}
-use Rattle.od_merge.specs.Steps.{deepest_first, with_deepest}
+use Rattle.od_merge.specs.Steps.{by_depth, deepest_first, depth_of}
 
 abbrev pub Path : Type 0
 Path = List (List ℕ)
@@ -117,19 +117,6 @@ pub in_order_joined : (put a b : List Path) → in_order_from put (a ++ b) ≡ i
 in_order_joined put [] b = refl
 in_order_joined put (path ∷ a) b = in_order_joined (insert_key path_cmp put path) a b
 
-deep-at : (t : Bool) (q path first : Path) (rest : List Path) → is_in q (with_deepest path rest) ≡ (is_path q path || is_in q rest)
-    → is_in q (cond t (first ∷ with_deepest path rest) (path ∷ (first ∷ rest))) ≡ (is_path q path || (is_path q first || is_in q rest))
-deep-at true q path first rest inner = ap (λ b. is_path q first || b) inner ∙ turn-or (is_path q path) (is_path q first) (is_in q rest)
-deep-at false q path first rest inner = refl
-
-deep-in : (q path : Path) (paths : List Path) → is_in q (with_deepest path paths) ≡ (is_path q path || is_in q paths)
-deep-in q path [] = refl
-deep-in q path (first ∷ rest) = deep-at (nat_lt (length path) (length first)) q path first rest (deep-in q path rest)
-
-pub deepest-in : (q : Path) (paths : List Path) → is_in q (deepest_first paths) ≡ is_in q paths
-deepest-in q [] = refl
-deepest-in q (path ∷ paths) = deep-in q path (deepest_first paths) ∙ ap (λ b. is_path q path || b) (deepest-in q paths)
-
 or-assoc : (a b c : Bool) → (a || (b || c)) ≡ ((a || b) || c)
 or-assoc true b c = refl
 or-assoc false b c = refl
@@ -137,6 +124,72 @@ or-assoc false b c = refl
 pub in-joined : (q : Path) (a b : List Path) → is_in q (a ++ b) ≡ (is_in q a || is_in q b)
 in-joined q [] b = refl
 in-joined q (p ∷ a) b = ap (λ c. is_path q p || c) (in-joined q a b) ∙ or-assoc (is_path q p) (is_in q a) (is_in q b)
+
+-- ---- in the order of their depth
+and-nothing : (a : Bool) → false ≡ (a && false)
+and-nothing true = refl
+and-nothing false = refl
+
+filter-step : (t u b : Bool) (test : Path → Bool) (q p : Path) (rest : List Path) → test p ≡ t → is_path q p ≡ u → is_in q rest ≡ (test q && b) → is_in q (cond t (p ∷ rest) rest) ≡ (test q && (u || b))
+filter-step true true b test q p rest passes is inner =
+    ap (λ x. x || is_in q rest) is ∙ sym (ap (λ x. x && true) (ap test (same-path q p is) ∙ passes))
+filter-step true false b test q p rest passes is inner = ap (λ x. x || is_in q rest) is ∙ inner
+filter-step false true b test q p rest passes is inner =
+    let fails = ap test (same-path q p is) ∙ passes in
+    inner ∙ (ap (λ x. x && b) fails ∙ sym (ap (λ x. x && true) fails))
+filter-step false false b test q p rest passes is inner = inner
+
+pub filter-in : (test : Path → Bool) (q : Path) (paths : List Path) → is_in q (filter test paths) ≡ (test q && is_in q paths)
+filter-in test q [] = and-nothing (test q)
+filter-in test q (p ∷ paths) = filter-step (test p) (is_path q p) (is_in q paths) test q p (filter test paths) refl refl (filter-in test q paths)
+
+and-over : (a b c : Bool) → ((a && c) || (b && c)) ≡ ((a || b) && c)
+and-over true b true = refl
+and-over true true false = refl
+and-over true false false = refl
+and-over false b c = refl
+
+lt-next-at : (t u : Bool) (a b : ℕ) → nat_eq a b ≡ t → nat_lt a b ≡ u → (t || u) ≡ nat_lt a (suc b)
+lt-next-at true u a b same less = let is = eqb-true a b same in sym (lt-ltb a (suc b) (omega (arith, is)))
+lt-next-at false true a b same less = let is = ltb-true a b less in sym (lt-ltb a (suc b) (omega (arith, is)))
+lt-next-at false false a b same less =
+    sym (false_from_ne_true (nat_lt a (suc b)) (λ next. let is = ltb-true a (suc b) next in
+    let apart : a ≢ b = λ e. true≢false (sym (eq-eqb a b e) ∙ same) in
+    true≢false (sym (lt-ltb a b (omega (arith, is, apart))) ∙ less)))
+
+lt-next : (a b : ℕ) → (nat_eq a b || nat_lt a b) ≡ nat_lt a (suc b)
+lt-next a b = lt-next-at (nat_eq a b) (nat_lt a b) a b refl refl
+
+none-less : (a : ℕ) (b : Bool) → false ≡ (nat_lt a 0 && b)
+none-less a b = sym (and_left (nat_lt a 0) b (false_from_ne_true (nat_lt a 0) (λ less. let is = ltb-true a 0 less in omega (arith, is))))
+
+depth-in : (q : Path) (depth : ℕ) (paths : List Path) → is_in q (by_depth depth paths) ≡ (nat_lt (length q) depth && is_in q paths)
+depth-in q zero paths = none-less (length q) (is_in q paths)
+depth-in q (suc depth) paths =
+    in-joined q (filter (λ path. nat_eq (length path) depth) paths) (by_depth depth paths)
+    ∙ (ap (λ b. b || is_in q (by_depth depth paths)) (filter-in (λ path. nat_eq (length path) depth) q paths)
+    ∙ (ap (λ b. (nat_eq (length q) depth && is_in q paths) || b) (depth-in q depth paths)
+    ∙ (and-over (nat_eq (length q) depth) (nat_lt (length q) depth) (is_in q paths)
+    ∙ ap (λ b. b && is_in q paths) (lt-next (length q) depth))))
+
+within-at : (t : Bool) (q p : Path) (paths : List Path) → is_path q p ≡ t → (is_in q paths ≡ true → nat_lt (length q) (depth_of paths) ≡ true) → (t || is_in q paths) ≡ true
+    → nat_lt (length q) (depth_of (p ∷ paths)) ≡ true
+within-at true q p paths is more has =
+    let long : length q ≡ length p = ap (λ (x : Path). length x) (same-path q p is) in lt-ltb (length q) (depth_of (p ∷ paths)) (omega (arith, long))
+within-at false q p paths is more has =
+    let less = ltb-true (length q) (depth_of paths) (more has) in lt-ltb (length q) (depth_of (p ∷ paths)) (omega (arith, less))
+
+within : (q : Path) (paths : List Path) → is_in q paths ≡ true → nat_lt (length q) (depth_of paths) ≡ true
+within q [] has = absurd (false≢true has)
+within q (p ∷ paths) has = within-at (is_path q p) q p paths refl (within q paths) has
+
+and-if : (a b : Bool) → (b ≡ true → a ≡ true) → (a && b) ≡ b
+and-if true b is = refl
+and-if false true is = is refl
+and-if false false is = refl
+
+pub deepest-in : (q : Path) (paths : List Path) → is_in q (deepest_first paths) ≡ is_in q paths
+deepest-in q paths = depth-in q (depth_of paths) paths ∙ and-if (nat_lt (length q) (depth_of paths)) (is_in q paths) (within q paths)
 
 -- a tree has something at exactly its paths
 here-at : (t : Bool) (q : Path) (entry : Path × Content) (tree : List (Path × Content)) → is_path q entry.0 ≡ t

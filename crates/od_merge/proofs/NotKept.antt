@@ -6,7 +6,7 @@ use Rattle.od_merge.specs.declared.content.Content.{Content}
 use Rattle.od_merge.specs.declared.content.Content.TheVariants.{Folder, File}
 use Rattle.od_merge.specs.Sides.{Sides, Tree, at, entry_passes, is_below, is_file, is_folder, is_from, is_kept, is_kept_node, is_kept_there, is_path, is_skipped, paths_of, same}
 use Rattle.od_merge.specs.Merging.{all_paths, both_paths, is_going, is_left, is_needed, is_staying, merged, seen, is_unwanted, target, wanted}
-use Rattle.od_merge.specs.Steps.{done, is_fetched, is_sent, needs_folder, steps_here, steps_there}
+use Rattle.od_merge.specs.Steps.{IsProper, done, is_fetched, is_sent, needs_folder, steps_here, steps_there}
 use Rattle.od_merge.proofs.Lists.{Path, at-in, from-self, from-through, is_in, same-path}
 use Rattle.od_merge.proofs.Needs.{below-from, below-is-from, from-below, makes_needed, none-more}
 use Rattle.od_merge.proofs.Doing.{in-all, kinds, none-of-list, none-of-tree}
@@ -67,12 +67,6 @@ module _ (passes : Path → Bool → Bool) (side : Tree) (above : (top path : Pa
       subst (λ (x : Option Content). is_kept_node passes side o x ≡ true) (sym folder)
       (true_from_ne_false (list_any (λ (entry : Path × Content). is_from o entry.0 && entry_passes passes entry) side)
       (λ none. true≢false (sym (and_from (is_from o o) (passes o true) (from-self o) pass) ∙ none-node (λ r n. is_from o r && passes r (is_folder (Some n))) o Folder side none folder)))
-
--- both trees are proper, and what is left is kept on one of the sides
-pub record IsProper (s : Sides) : Type 0 where
-  pub here : (top path : Path) → nat_lt 0 (length top) ≡ true → is_below top path ≡ true → is_some (at s.local path) ≡ true → at s.local top ≡ Some Folder
-  pub there : (top path : Path) → nat_lt 0 (length top) ≡ true → is_below top path ≡ true → is_some (at s.remote path) ≡ true → at s.remote top ≡ Some Folder
-  pub left_kept : (top : Path) → is_in top s.left ≡ true → is_kept_there s top ≡ true
 
 cond-nothing : (t u : Bool) (x : Option Content) → t ≡ false → cond (t && u) x None ≡ None
 cond-nothing true u x is = absurd (true≢false is)

@@ -43,7 +43,7 @@ conflicts s = filter (is_conflict s) (paths_of s.local)
 -- each conflict beside the path that it gets, if one is left, among the paths that are taken
 abbrev pub and_taken : Option Path → List Path → List Path
 and_taken None taken = taken
-and_taken (Some path) taken = path ∷ taken
+and_taken (Some path) taken = taken ++ path ∷ []
 
 abbrev pub copied : (List Path → Path → Option Path) → List Path → List Path → List (Path × Option Path)
 copied copy taken [] = []

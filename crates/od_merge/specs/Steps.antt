@@ -1,5 +1,5 @@
 -- What the plan has done on each side, and what a side has after steps: a step leaves something, or nothing, at its path.
-use Rattle.std.specs.Prelude.{ℕ, ◌≡◌, Bool, true, false, not, ◌&&◌, ◌||◌, cond, List, [], ◌∷◌, ◌++◌, length, map, filter, is_some, is_none, nat_eq, nat_lt, Option, Some, None}
+use Rattle.std.specs.Prelude.{ℕ, zero, suc, ◌+◌, max, ◌≡◌, Bool, true, false, not, ◌&&◌, ◌||◌, cond, List, [], ◌∷◌, ◌++◌, length, map, filter, is_some, is_none, nat_eq, nat_lt, Option, Some, None}
 use Rattle.std.specs.List.{list_any}
 use Rattle.od_merge.specs.declared.content.Content.{Content}
 use Rattle.od_merge.specs.declared.content.Content.TheVariants.{Folder, File}
@@ -16,13 +16,16 @@ abbrev pub steps_at : (Path → Bool) → (Path → Option Content) → List Pat
 steps_at test leaves paths = map (λ path. (path, leaves path)) (filter test paths)
 
 -- the deepest first, and those of one depth in their order
-abbrev pub with_deepest : Path → List Path → List Path
-with_deepest path [] = path ∷ []
-with_deepest path (first ∷ rest) = cond (nat_lt (length path) (length first)) (first ∷ with_deepest path rest) (path ∷ (first ∷ rest))
+abbrev pub by_depth : ℕ → List Path → List Path
+by_depth zero paths = []
+by_depth (suc depth) paths = filter (λ path. nat_eq (length path) depth) paths ++ by_depth depth paths
+
+abbrev pub depth_of : List Path → ℕ
+depth_of [] = 0
+depth_of (path ∷ paths) = max (length path + 1) (depth_of paths)
 
 abbrev pub deepest_first : List Path → List Path
-deepest_first [] = []
-deepest_first (path ∷ paths) = with_deepest path (deepest_first paths)
+deepest_first paths = by_depth (depth_of paths) paths
 
 abbrev pub needs_folder : Sides → Tree → Path → Bool
 needs_folder s side path = is_folder (target s path) && not (is_folder (at side path))
@@ -88,3 +91,9 @@ pub record IsDriveTree (tree : Tree) : Type 0 where
 pub record IsMerged (is_held : Path → Bool) (s : Sides) (path : Path) : Type 0 where
   pub here : done (steps_here s) path (at s.local path) ≡ stands s s.local path
   pub there : is_held path ≡ false → done (steps_there is_held s) path (at s.remote path) ≡ stands s s.remote path
+
+-- both trees are proper, and what is left is kept on one of the sides
+pub record IsProper (s : Sides) : Type 0 where
+  pub here : (top path : Path) → nat_lt 0 (length top) ≡ true → is_below top path ≡ true → is_some (at s.local path) ≡ true → at s.local top ≡ Some Folder
+  pub there : (top path : Path) → nat_lt 0 (length top) ≡ true → is_below top path ≡ true → is_some (at s.remote path) ≡ true → at s.remote top ≡ Some Folder
+  pub left_kept : (top : Path) → list_any (is_path top) s.left ≡ true → is_kept_there s top ≡ true
