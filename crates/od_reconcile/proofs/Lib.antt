@@ -1,0 +1,5 @@
+pub mod Lookups
+pub mod Fronts
+pub mod Indexes
+pub mod Goes
+pub mod Wanting

@@ -1,0 +1,4 @@
+pub mod Entries
+pub mod Above
+pub mod Ready
+pub mod Looks
