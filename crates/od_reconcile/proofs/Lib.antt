@@ -3,3 +3,5 @@ pub mod Fronts
 pub mod Indexes
 pub mod Goes
 pub mod Wanting
+pub mod CopyNames
+pub mod Listed

@@ -6,8 +6,8 @@ use Rattle.gd_item.specs.declared.item.Kind.TheVariants as kind
 use Rattle.od_merge.specs.Sides.{Path, Tree}
 use Rattle.od_merge.specs.declared.content.Content.{Content}
 use Rattle.od_merge.specs.declared.content.Content.TheVariants.{Folder, File}
-use Rattle.od_reconcile.specs.declared.plan.Node.{Node}
-use Rattle.od_reconcile.specs.declared.plan.Node.TheVariants as node
+use Rattle.od_reconcile.specs.declared.types.Node.{Node}
+use Rattle.od_reconcile.specs.declared.types.Node.TheVariants as node
 
 -- what a scan found, without sizes
 abbrev pub node_content : Node → Content

@@ -3,7 +3,7 @@ ghost use Rattle.od_merge.specs.Sides.{at, same, is_folder, is_file, is_other_ki
 ghost use Rattle.od_reconcile.specs.Above.{or_else};
 ghost use Rattle.od_reconcile.specs.Entries.{node_content, kind_content, local_tree, remote_tree};
 
-use crate::plan::Node;
+use crate::types::Node;
 use gd_item::{Item, Kind};
 use gd_names::{NoMemory, Path};
 use od_merge::Content;

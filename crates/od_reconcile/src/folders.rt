@@ -62,3 +62,12 @@ pub(crate) fn from_all(alloc: Global, marked: &[Path]) -> Result<BTreeSet<Path>,
     add_all(&mut folders, marked)?;
     Ok(folders)
 }
+
+/// Paths as a set.
+pub(crate) fn set_of(alloc: Global, marked: &[Path]) -> Result<BTreeSet<Path>, NoMemory>
+    ensures { IfOk result (λ found. (path : List (List ℕ)) → is_in path found.keys ≡ is_in path marked.now) }
+{
+    let mut found = BTreeSet::new(alloc);
+    add_all(&mut found, marked)?;
+    Ok(found)
+}

@@ -3,12 +3,18 @@
 
 mod both;
 mod conflicts;
+mod copies;
 mod entries;
 mod folders;
+mod holding;
+mod listing;
 mod look;
 mod merge;
-mod plan;
+mod types;
+mod planning;
 mod side;
+mod steps;
 
 pub use od_merge::Why;
-pub use plan::{Down, Held, Node, Plan, Rename, Up};
+pub use planning::plan;
+pub use types::{Down, Held, Node, Plan, Rename, Up};

@@ -184,9 +184,11 @@ fn add_paths(paths: &mut BTreeSet<Path>, tree: &[(Path, Content)]) -> Result<(),
 pub(crate) fn all_paths(alloc: Global, merge: &Merge<'_>) -> Result<BTreeSet<Path>, NoMemory>
     ensures { IfOk result (λ paths. paths.keys ≡ all_paths (merge_sides merge.now)) }
 {
+    let here = merge.here;
+    let both = merge.both;
     let mut paths = BTreeSet::new(alloc);
-    add_paths(&mut paths, merge.here.tree)?;
-    add_paths(&mut paths, merge.both.there.tree)?;
+    add_paths(&mut paths, here.tree)?;
+    add_paths(&mut paths, both.there.tree)?;
     Ok(paths)
 }
 

@@ -8,4 +8,4 @@ use Rattle.od_reconcile.proofs.merge.all_paths.Goals as goal
 pub returns : goal.returns
 returns c =
     let s = merge_sides c.args.merge.now in
-    c.in_ok-add_paths-2.ensures ∙ (ap (λ (keys : List Path). in_order_from keys (paths_of s.remote)) c.in_ok-add_paths.ensures ∙ sym (in_order_joined [] (paths_of s.local) (paths_of s.remote)))
+    c.in_ok-add_paths-2.ensures ∙ (ap (λ (keys : List Path). in_order_from keys (paths_of s.remote)) (c.in_ok-add_paths.ensures ∙ ap (λ (keys : List Path). in_order_from keys (paths_of s.local)) c.new-paths.ensures.empty) ∙ sym (in_order_joined [] (paths_of s.local) (paths_of s.remote)))
