@@ -98,7 +98,7 @@ as-entry q path x old new put =
     sym (map-has q new) ∙ (put ∙ (ap (λ y. or_else y (cond (is_path path q) (Some x) None)) (map-has q old)
     ∙ ap (λ y. or_else (at old q) y) (ap (λ b. cond b (Some x) None) (turned path q) ∙ one-at q path x (is_path q path) refl)))
 
-or-else-over : {X : Type 0} (a b c : Option X) → or_else (or_else a b) c ≡ or_else a (or_else b c)
+pub or-else-over : {X : Type 0} (a b c : Option X) → or_else (or_else a b) c ≡ or_else a (or_else b c)
 or-else-over None b c = refl
 or-else-over (Some x) b c = refl
 

@@ -1,21 +1,22 @@
 -- What the lists of a plan are read from.
-use Rattle.std.proofs.Common.{◌≡◌, ℕ, zero, suc, ◌-◌, ◌<◌, Bool, true, false, ◌||◌, cond, List, [], ◌∷◌, ◌++◌, length, filter, map, not, is_none, ◌&&◌, is_some, nat_eq, Option, Some, None, refl, ap, sym, ◌∙◌, arith}
+use Rattle.std.proofs.Common.{◌≡◌, ℕ, zero, suc, ◌-◌, ◌<◌, Bool, true, false, ◌||◌, cond, List, [], ◌∷◌, ◌++◌, length, filter, map, not, is_none, ◌&&◌, is_some, nat_eq, Option, Some, None, refl, ap, sym, subst, ◌∙◌, arith}
 use Rattle.std.specs.Map.{lookup}
-use Rattle.std.specs.List.{filter_map, list_any}
-use Rattle.std.specs.Option.{option_to_list}
+use Rattle.std.specs.List.{cons_option, filter_map, list_any}
 use Rattle.std.specs.Ordering.{is_eq}
 use Rattle.std.proofs.lemmas.Bool.{or_left, or_right}
 use Rattle.gd_item.specs.declared.item.Item.{Item}
 use Rattle.gd_names.specs.Ordered.{path_cmp}
-use Rattle.od_merge.specs.Merging.{Limits, all_paths, both_paths, is_going, moved, renamed_tree, why_held}
+use Rattle.od_merge.specs.Merging.{Limits, all_paths, both_paths, is_going, moved, renamed, renamed_tree, renames, why_held}
 use Rattle.od_merge.specs.Sides.{Sides, Tree, at, digest_of, is_path, paths_of, sides_of}
 use Rattle.od_merge.specs.Steps.{by_depth, deepest_first, is_fetched, is_sent}
 use Rattle.od_merge.proofs.Lists.{Path, at-in, in-joined, is_in}
 use Rattle.od_reconcile.specs.Looks.{IsSide}
-use Rattle.od_reconcile.specs.Plans.{delete_of, down_list, fetch_here, fetch_of, folder_here, folder_there, item_at, over_of, removal_here, removal_there, send_there, up_list}
-use Rattle.od_reconcile.specs.Copying.{renamed_entries}
+use Rattle.od_reconcile.specs.Plans.{delete_of, down_list, fetch_here, fetch_of, folder_here, folder_there, item_at, over_of, removal_here, removal_there, send_there, up_list, IsPlanOf}
+use Rattle.od_reconcile.specs.Copying.{copy_path, renamed_entries}
 use Rattle.od_reconcile.specs.Entries.{local_tree, node_content}
+use Rattle.od_reconcile.specs.Holding.{limits_of}
 use Rattle.od_reconcile.specs.declared.types.Node.{Node}
+use Rattle.od_reconcile.specs.declared.types.Plan.{Plan}
 use Rattle.od_reconcile.specs.declared.types.Up.TheVariants as up
 use Rattle.od_keeper.specs.declared.image.BaseRow.{BaseRow}
 use Rattle.od_synclist.specs.Rules.{passes_file}
@@ -76,15 +77,9 @@ pub as-item : (q path : Path) (item : Item) (old new : List (Path × Item)) → 
 as-item q path item old new put = sym (item-found q new) ∙ (put ∙ ap (λ x. or_else x (cond (is_path path q) (Some item) None)) (item-found q old))
 
 -- ---- lists of steps by two indexes that have the same
-map-step : {X : Type 0} (x y : Option X) (xs ys : List X) → x ≡ y → xs ≡ ys → (option_to_list x ++ xs) ≡ (option_to_list y ++ ys)
-map-step x y xs ys x_is xs_is = rw (x_is, xs_is) refl
-
-map-parts : {X : Type 0} (f : Path → Option X) (path : Path) (paths : List Path) → filter_map f (path ∷ paths) ≡ option_to_list (f path) ++ filter_map f paths
-map-parts f path paths = refl
-
 pub maps-alike : {X : Type 0} (f g : Path → Option X) → ((path : Path) → f path ≡ g path) → (paths : List Path) → filter_map f paths ≡ filter_map g paths
 maps-alike f g same [] = refl
-maps-alike f g same (path ∷ paths) = map-parts f path paths ∙ (map-step (f path) (g path) (filter_map f paths) (filter_map g paths) (same path) (maps-alike f g same paths) ∙ sym (map-parts g path paths))
+maps-alike f g same (path ∷ paths) = ap (λ x. cons_option x (filter_map f paths)) (same path) ∙ ap (λ xs. cons_option (g path) xs) (maps-alike f g same paths)
 
 pub down-alike : (m : Sides) (a b : List (Path × Item)) → ((path : Path) → item_at a path ≡ item_at b path) → down_list m a ≡ down_list m b
 down-alike m a b same =
@@ -109,3 +104,21 @@ sides-then s a b f g trees lefts = rw (trees, lefts) refl
 pub found-alike : {rules r : List ℕ} {rows w : List BaseRow} {local l : Tree} {remote e : Tree} → rules ≡ r → rows ≡ w → local ≡ l → remote ≡ e
     → sides_of (passes_file rules) rows local remote ≡ sides_of (passes_file r) w l e
 found-alike rules_is rows_is local_is remote_is = rw (rules_is, rows_is, local_is, remote_is) refl
+
+-- ---- a plan by what was made ready is the plan by what was given
+pub plan-is : (host : List ℕ) (t s : Sides) (l local : List (Path × Node)) (q quota : List Path) (a items : List (Path × Item)) (plan : Plan) → t ≡ s → l ≡ local → q ≡ quota
+    → ((path : Path) → item_at a path ≡ item_at items path)
+    → IsPlanOf (renames (copy_path host t.local) t) (limits_of q (renamed_entries (renames (copy_path host t.local) t) l)) (renamed (copy_path host t.local) t) a plan
+    → IsPlanOf (renames (copy_path host s.local) s) (limits_of quota (renamed_entries (renames (copy_path host s.local) s) local)) (renamed (copy_path host s.local) s) items plan
+plan-is host t s l local q quota a items plan s_is l_is q_is same is =
+    let m = renamed (copy_path host s.local) s in
+    let moves = renames (copy_path host s.local) s in
+    let one = subst (λ (t : Sides). IsPlanOf (renames (copy_path host t.local) t) (limits_of q (renamed_entries (renames (copy_path host t.local) t) l)) (renamed (copy_path host t.local) t) a plan) s_is is in
+    let two = subst (λ (l : List (Path × Node)). IsPlanOf moves (limits_of q (renamed_entries moves l)) m a plan) l_is one in
+    let three = subst (λ (q : List Path). IsPlanOf moves (limits_of q (renamed_entries moves local)) m a plan) q_is two in
+    record {
+      renames = three.renames;
+      down = three.down ∙ down-alike m a items same;
+      up = three.up ∙ up-alike (limits_of quota (renamed_entries moves local)) m a items same;
+      held = three.held;
+    }
