@@ -1,10 +1,10 @@
 -- What the three kinds of step make of a path on a side, by what stands there and what is to stand there.
-use Rattle.std.proofs.Common.{◌≡◌, ◌⊎◌, inl, inr, ℕ, Bool, true, false, not, ◌&&◌, ◌||◌, cond, is_none, is_some, List, Option, Some, None, refl, ap, sym, subst, ◌∙◌}
-use Rattle.std.proofs.lemmas.Bool.{true≢false, false≢true}
+use Rattle.std.proofs.Common.{◌≡◌, ℕ, Bool, true, false, not, ◌&&◌, ◌||◌, cond, is_none, is_some, List, Option, Some, None, refl, ap, sym}
+use Rattle.std.proofs.lemmas.Bool.{false≢true}
 use Rattle.std.specs.Cmp.Lexicographic.{same_text}
 use Rattle.od_merge.specs.declared.content.Content.{Content}
 use Rattle.od_merge.specs.declared.content.Content.TheVariants.{Folder, File}
-use Rattle.od_merge.specs.Sides.{same, same_digest, is_folder, is_file, is_other_kind}
+use Rattle.od_merge.specs.Sides.{same, is_folder, is_file, is_other_kind}
 
 pub same-nodes : (a b : Option Content) → same a b ≡ true → a ≡ b
 same-nodes None None is = refl

@@ -1,13 +1,12 @@
 -- The renames that are made are of conflicts, to free paths beside them, and of all conflicts but those that are left.
-use Rattle.std.proofs.Common.{◌≡◌, ◌⊎◌, inl, inr, ℕ, Bool, true, false, not, ◌&&◌, ◌||◌, cond, is_none, is_some, List, [], ◌∷◌, ◌++◌, map, filter, Option, Some, None, refl, ap, sym, subst, ◌∙◌}
-use Rattle.std.proofs.lemmas.Bool.{true≢false, false≢true, and_parts, and_from, or_parts, or_from, or_left, or_right, false_from_ne_true}
+use Rattle.std.proofs.Common.{◌≡◌, ◌⊎◌, inl, inr, Bool, true, false, ◌||◌, cond, is_none, is_some, List, [], ◌∷◌, ◌++◌, map, filter, Option, Some, None, refl, ap, sym, subst, ◌∙◌}
+use Rattle.std.proofs.lemmas.Bool.{true≢false, false≢true, or_parts, or_from, or_left, or_right, false_from_ne_true}
 use Rattle.std.specs.List.{list_any, filter_map}
 use Rattle.std.specs.Option.{option_map}
 use Rattle.od_merge.specs.declared.content.Content.{Content}
-use Rattle.od_merge.specs.declared.content.Content.TheVariants.{Folder, File}
-use Rattle.od_merge.specs.Sides.{Sides, Tree, at, is_below, is_file, is_from, is_kept_there, is_path, paths_of}
-use Rattle.od_merge.specs.Merging.{and_taken, both_paths, conflicts, copied, copies, is_conflict, is_conflict_of, is_left, renamed, renames, without_copy}
-use Rattle.od_merge.specs.Steps.{AreCopies, Fits, IsClear, IsCopy, IsCopying, IsDriveTree, IsMerged}
+use Rattle.od_merge.specs.Sides.{Sides, at, is_from, is_kept_there, is_path, paths_of}
+use Rattle.od_merge.specs.Merging.{and_taken, both_paths, conflicts, copied, is_conflict, is_conflict_of, is_left, renamed, renames, without_copy}
+use Rattle.od_merge.specs.Steps.{AreCopies, Fits, IsClear, IsCopying, IsDriveTree, IsMerged}
 use Rattle.od_merge.proofs.Lists.{Path, at-in, from-self, in-joined, is_in, path-self, same-path}
 use Rattle.od_merge.proofs.Renames.{conflict-there, none-new}
 use Rattle.od_merge.proofs.Doing.{done-here, done-there}

@@ -1,19 +1,19 @@
 -- The merge where all passes.
-use Rattle.std.proofs.Common.{◌≡◌, ℕ, Bool, true, false, not, ◌&&◌, ◌||◌, cond, List, [], ◌∷◌, ◌++◌, length, filter, is_some, is_none, nat_lt, Option, Some, None, refl, ap, sym, subst, ◌∙◌}
-use Rattle.std.proofs.lemmas.Bool.{true≢false, false≢true, and_right, and_left, or_from, or_left, or_right, false_from_ne_true, true_from_ne_false}
+use Rattle.std.proofs.Common.{◌≡◌, Bool, true, false, not, ◌&&◌, ◌||◌, cond, List, [], ◌∷◌, filter, is_some, is_none, Option, Some, None, refl, ap, sym, ◌∙◌}
+use Rattle.std.proofs.lemmas.Bool.{true≢false, false≢true, and_right, or_from, or_left, or_right, true_from_ne_false}
 use Rattle.std.specs.BTreeSet.{insert_key}
-use Rattle.std.specs.List.{list_any, list_all}
+use Rattle.std.specs.List.{list_any}
 use Rattle.std.specs.Ordering.{match_ordering}
 use Rattle.std.specs.declared.cmp.Ordering.{Ordering}
 use Rattle.std.specs.declared.cmp.Ordering.TheVariants.{Less, Equal, Greater}
 use Rattle.od_merge.specs.declared.content.Content.{Content}
 use Rattle.od_merge.specs.declared.content.Content.TheVariants.{Folder, File}
-use Rattle.od_merge.specs.Sides.{Sides, at, is_from, is_below, is_folder, is_file, is_other_kind, is_kept, is_kept_node, is_path, is_skipped, paths_of}
+use Rattle.od_merge.specs.Sides.{Sides, at, is_from, is_below, is_other_kind, is_kept, is_kept_node, is_skipped, paths_of}
 use Rattle.gd_names.specs.Ordered.{path_cmp}
-use Rattle.od_merge.specs.Merging.{all_paths, both_paths, in_order_from, is_going, is_needed, is_staying, is_unwanted, merged, seen, target, wanted}
+use Rattle.od_merge.specs.Merging.{all_paths, both_paths, in_order_from, is_needed, is_staying, is_unwanted, merged, seen, target, wanted}
 use Rattle.od_merge.specs.Core.{core}
-use Rattle.od_merge.proofs.Lists.{Path, at-in, exact-paths, from-self, in-joined, in-order-from, in_order_joined, is_in, none-of, path-self, same-path}
-use Rattle.od_merge.proofs.Needs.{below-is-from, from-below, makes_needed}
+use Rattle.od_merge.proofs.Lists.{Path, at-in, exact-paths, from-self, in-joined, is_in, none-of}
+use Rattle.od_merge.proofs.Needs.{makes_needed}
 
 abbrev all : Path → Bool → Bool
 all path folder = true

@@ -1,15 +1,15 @@
 -- What goes from the folder or is replaced there is as the base, and nothing is carried where both sides are the same.
-use Rattle.std.proofs.Common.{◌≡◌, ◌⊎◌, inl, inr, ℕ, Bool, true, false, not, ◌&&◌, ◌||◌, cond, is_none, is_some, List, Option, Some, None, refl, ap, sym, subst, ◌∙◌}
-use Rattle.std.proofs.lemmas.Bool.{true≢false, false≢true, and_parts, and_from, and_left, and_right, or_parts, or_from, false_from_ne_true, true_from_ne_false, not-true}
+use Rattle.std.proofs.Common.{◌≡◌, ◌⊎◌, inl, inr, Bool, true, false, not, ◌&&◌, ◌||◌, cond, is_none, is_some, Option, Some, None, refl, ap, sym, subst, ◌∙◌}
+use Rattle.std.proofs.lemmas.Bool.{true≢false, false≢true, and_parts, false_from_ne_true, true_from_ne_false, not-true}
 use Rattle.od_merge.specs.declared.content.Content.{Content}
-use Rattle.od_merge.specs.declared.content.Content.TheVariants.{Folder, File}
-use Rattle.od_merge.specs.Sides.{Sides, at, is_file, is_folder, is_other_kind, is_kept, is_kept_there, same}
-use Rattle.od_merge.specs.Merging.{is_going, is_needed, merged, seen, target, wanted}
-use Rattle.od_merge.specs.Steps.{Fits, IsClear, is_fetched, is_sent}
+use Rattle.od_merge.specs.declared.content.Content.TheVariants.{Folder}
+use Rattle.od_merge.specs.Sides.{Sides, at, is_file, is_folder, same}
+use Rattle.od_merge.specs.Merging.{is_needed, merged, seen, target, wanted}
+use Rattle.od_merge.specs.Steps.{IsClear, is_fetched, is_sent}
 use Rattle.od_merge.proofs.Lists.{Path}
 use Rattle.od_merge.proofs.Cases.{same-nodes}
 use Rattle.od_merge.proofs.Needs.{file-from, file-needs, wanted-is}
-use Rattle.od_merge.proofs.SideFacts.{IsAsBase, file-beside, file-of, goes, here-file-kept, is-folder}
+use Rattle.od_merge.proofs.SideFacts.{file-beside, file-of, here-file-kept, is-folder}
 use Rattle.od_merge.proofs.Doing.{seen-kept}
 
 -- ---- nothing is carried where both sides are the same

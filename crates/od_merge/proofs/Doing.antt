@@ -1,7 +1,7 @@
 -- Doing the steps makes each side what is to stand on it, path by path.
-use Rattle.std.proofs.Common.{◌≡◌, ◌⊎◌, inl, inr, ℕ, Bool, true, false, not, ◌&&◌, ◌||◌, cond, is_none, is_some, List, [], ◌∷◌, ◌++◌, Option, Some, None, refl, ap, sym, subst, ◌∙◌}
-use Rattle.std.proofs.lemmas.Bool.{true≢false, false≢true, and_parts, and_from, and_left, and_right, or_parts, or_from, or_left, or_right, cases_Bool, false_from_ne_true, cond-false, cond-true, not-false, true_from_ne_false}
-use Rattle.std.specs.List.{list_any, list_all}
+use Rattle.std.proofs.Common.{◌≡◌, ◌⊎◌, inl, inr, Bool, true, false, not, ◌&&◌, ◌||◌, cond, is_some, List, [], ◌∷◌, ◌++◌, Option, Some, None, refl, ap, sym, subst, ◌∙◌}
+use Rattle.std.proofs.lemmas.Bool.{true≢false, false≢true, and_from, and_left, and_right, or_from, or_right, cond-false, cond-true, not-false, true_from_ne_false}
+use Rattle.std.specs.List.{list_any}
 use Rattle.gd_item.specs.declared.digest.Digest.{Digest}
 use Rattle.od_merge.specs.declared.content.Content.{Content}
 use Rattle.od_merge.specs.declared.content.Content.TheVariants.{Folder, File}
@@ -12,7 +12,7 @@ use Rattle.od_merge.proofs.Cases.{Going, made, same-nodes}
 use Rattle.od_merge.proofs.Lists.{text-self, Path, is_in, at-in, deepest-in, from-self, path-self, in-joined, in-order}
 use Rattle.od_merge.proofs.Needs.{below-from, below-is-from, file-from, file-needs, makes_needed, seen-file, wanted-is}
 use Rattle.od_merge.proofs.Phases.{chosen, done-then}
-use Rattle.od_merge.proofs.SideFacts.{IsAsBase, file-beside, file-goes, file-of, folder-beside, goes, here-file-kept, here-folder-goes, is-folder, either, twice}
+use Rattle.od_merge.proofs.SideFacts.{IsAsBase, file-beside, file-goes, file-of, folder-beside, goes, here-file-kept, here-folder-goes, is-folder, either}
 
 -- ---- what was not changed makes way for what the drive has
 pub seen-kept : (s : Sides) (side : List (Path × Content)) (q : Path) → is_kept s.passes side q ≡ true → seen s side q ≡ at side q

@@ -1,18 +1,18 @@
 -- Laws of the merge where all passes.
-use Rattle.std.proofs.Common.{◌≡◌, ◌⊎◌, inl, inr, ℕ, Bool, true, false, not, ◌&&◌, ◌||◌, cond, List, [], ◌∷◌, ◌++◌, length, map, filter, is_some, is_none, nat_lt, nat_eq, Option, Some, None, refl, ap, sym, subst, ◌∙◌, arith}
-use Rattle.std.proofs.lemmas.Bool.{true≢false, false≢true, and_parts, and_from, and_left, and_right, or_parts, or_from, false_from_ne_true, lt-ltb}
+use Rattle.std.proofs.Common.{◌≡◌, Bool, true, false, not, ◌&&◌, ◌||◌, cond, List, [], ◌∷◌, ◌++◌, length, map, filter, is_some, is_none, nat_lt, Option, Some, None, refl, ap, sym, ◌∙◌, arith}
+use Rattle.std.proofs.lemmas.Bool.{true≢false, false≢true, and_parts, and_left, and_right, or_parts, or_from, false_from_ne_true, lt-ltb}
 use Rattle.std.specs.List.{list_any}
 use Rattle.od_merge.specs.declared.content.Content.{Content}
 use Rattle.od_merge.specs.declared.content.Content.TheVariants.{Folder, File}
-use Rattle.od_merge.specs.Sides.{Sides, at, is_below, is_file, is_folder, is_other_kind, is_path, paths_of, same}
+use Rattle.od_merge.specs.Sides.{Sides, at, is_below, is_file, is_folder, is_other_kind, paths_of, same}
 use Rattle.od_merge.specs.Merging.{all_paths, both_paths, is_going, is_needed, is_unwanted, merged, target, wanted}
 use Rattle.od_merge.specs.Steps.{deepest_first, is_fetched, is_sent, needs_folder, steps_at, steps_here, steps_there}
 use Rattle.od_merge.specs.Core.{IsTree, core}
 use Rattle.od_merge.proofs.Cases.{same-nodes}
-use Rattle.od_merge.proofs.Lists.{text-self, Path, at-in, deepest-in, in-joined, in-order, is_in, none-in}
+use Rattle.od_merge.proofs.Lists.{text-self, Path, at-in, deepest-in, in-joined, in-order, is_in}
 use Rattle.od_merge.proofs.Doing.{none-of-list}
 use Rattle.od_merge.proofs.SideFacts.{going-at}
-use Rattle.od_merge.proofs.Cores.{any-filter, any-order, core-needed, core-unwanted, core-wanted, is_wanted, sides}
+use Rattle.od_merge.proofs.Cores.{any-filter, core-needed, core-unwanted, core-wanted, is_wanted, sides}
 
 both : {x : Option Content} (t : Bool) → cond t x x ≡ x
 both true = refl

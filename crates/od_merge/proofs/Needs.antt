@@ -1,12 +1,12 @@
 -- What stands at a path for its own sake, and that nothing is to stand below a path that need not be a folder.
-use Rattle.std.proofs.Common.{◌≡◌, ◌≤◌, ◌<◌, ◌⊎◌, inl, inr, ℕ, ◌+◌, Bool, true, false, not, ◌&&◌, ◌||◌, cond, is_none, is_some, List, [], ◌∷◌, ◌++◌, length, nat_lt, Option, Some, None, refl, ap, sym, subst, ◌∙◌, arith}
-use Rattle.std.proofs.lemmas.Bool.{true≢false, false≢true, and_parts, and_from, and_left, and_right, or_parts, or_from, or_left, or_right, cases_Bool, ltb-true, lt-ltb, false_from_ne_true}
+use Rattle.std.proofs.Common.{◌≡◌, ◌≤◌, ◌<◌, ◌⊎◌, inl, inr, Bool, true, false, not, ◌&&◌, ◌||◌, cond, is_none, is_some, List, [], ◌∷◌, length, nat_lt, Option, Some, None, refl, ap, sym, subst, ◌∙◌, arith}
+use Rattle.std.proofs.lemmas.Bool.{true≢false, false≢true, and_parts, and_from, or_parts, or_from, or_left, or_right, ltb-true, lt-ltb, false_from_ne_true}
 use Rattle.std.specs.List.{list_any}
 use Rattle.od_merge.specs.declared.content.Content.{Content}
-use Rattle.od_merge.specs.declared.content.Content.TheVariants.{Folder, File}
-use Rattle.od_merge.specs.Sides.{Sides, at, same, is_path, is_from, is_below, is_folder, is_file, is_other_kind, is_kept, is_skipped, is_kept_there, paths_of}
+use Rattle.od_merge.specs.declared.content.Content.TheVariants.{Folder}
+use Rattle.od_merge.specs.Sides.{Sides, at, same, is_path, is_from, is_below, is_file, is_other_kind, is_kept, is_kept_there}
 use Rattle.od_merge.specs.Merging.{both_paths, is_left, is_needed, is_staying, merged, seen, target, wanted}
-use Rattle.od_merge.proofs.Lists.{Path, is_in, same-path, from-self, from-through, from-longer, none-in, in-joined, at-in}
+use Rattle.od_merge.proofs.Lists.{Path, is_in, same-path, from-through, from-longer, none-in}
 
 -- ---- what is taken stands on one of the sides
 cond-either : {X : Type 0} (t : Bool) (x y : X) → (cond t x y ≡ x) ⊎ (cond t x y ≡ y)

@@ -1,14 +1,14 @@
 -- Where nothing is kept, nothing is done.
-use Rattle.std.proofs.Common.{◌≡◌, ◌⊎◌, inl, inr, ℕ, Bool, true, false, not, ◌&&◌, ◌||◌, cond, is_none, is_some, nat_lt, arith, List, [], ◌∷◌, ◌++◌, length, Option, Some, None, refl, ap, sym, subst, ◌∙◌}
-use Rattle.std.proofs.lemmas.Bool.{true≢false, false≢true, and_parts, and_from, and_left, and_right, or_parts, or_from, or_left, or_right, false_from_ne_true, true_from_ne_false, lt-ltb}
+use Rattle.std.proofs.Common.{◌≡◌, Bool, true, false, not, ◌&&◌, ◌||◌, cond, is_some, nat_lt, arith, [], ◌∷◌, length, Option, Some, None, refl, ap, sym, subst, ◌∙◌}
+use Rattle.std.proofs.lemmas.Bool.{true≢false, false≢true, and_parts, and_from, and_left, and_right, or_parts, or_from, false_from_ne_true, true_from_ne_false, lt-ltb}
 use Rattle.std.specs.List.{list_any}
 use Rattle.od_merge.specs.declared.content.Content.{Content}
 use Rattle.od_merge.specs.declared.content.Content.TheVariants.{Folder, File}
-use Rattle.od_merge.specs.Sides.{Sides, Tree, at, entry_passes, is_below, is_file, is_folder, is_from, is_kept, is_kept_node, is_kept_there, is_path, is_skipped, paths_of, same}
-use Rattle.od_merge.specs.Merging.{all_paths, both_paths, is_going, is_left, is_needed, is_staying, merged, seen, is_unwanted, target, wanted}
+use Rattle.od_merge.specs.Sides.{Sides, Tree, at, entry_passes, is_below, is_file, is_folder, is_from, is_kept, is_kept_node, is_kept_there, is_path, is_skipped, same}
+use Rattle.od_merge.specs.Merging.{all_paths, both_paths, is_going, is_left, is_needed, is_staying, merged, seen, target, wanted}
 use Rattle.od_merge.specs.Steps.{IsProper, done, is_fetched, is_sent, needs_folder, steps_here, steps_there}
-use Rattle.od_merge.proofs.Lists.{Path, at-in, from-self, from-through, is_in, same-path}
-use Rattle.od_merge.proofs.Needs.{below-from, below-is-from, from-below, makes_needed, none-more}
+use Rattle.od_merge.proofs.Lists.{Path, from-self, from-through, is_in, same-path}
+use Rattle.od_merge.proofs.Needs.{below-is-from, from-below, makes_needed}
 use Rattle.od_merge.proofs.Doing.{in-all, kinds, none-of-list, none-of-tree}
 use Rattle.od_merge.proofs.SideFacts.{goes}
 

@@ -1,12 +1,12 @@
 -- After the renames no path is a conflict that was none before.
-use Rattle.std.proofs.Common.{◌≡◌, ◌⊎◌, inl, inr, ℕ, Bool, true, false, not, ◌&&◌, ◌||◌, cond, is_none, is_some, List, [], ◌∷◌, ◌++◌, length, nat_lt, arith, drop, map, Option, Some, None, refl, ap, sym, subst, ◌∙◌}
-use Rattle.std.proofs.lemmas.Bool.{true≢false, false≢true, and_parts, and_from, and_left, and_right, or_parts, or_from, or_left, or_right, false_from_ne_true, lt-ltb}
+use Rattle.std.proofs.Common.{◌≡◌, Bool, true, false, not, ◌&&◌, ◌||◌, cond, is_some, List, [], ◌∷◌, ◌++◌, length, nat_lt, arith, drop, Option, Some, None, refl, ap, sym, subst, ◌∙◌}
+use Rattle.std.proofs.lemmas.Bool.{true≢false, false≢true, and_parts, and_from, and_left, or_parts, or_from, false_from_ne_true, lt-ltb}
 use Rattle.std.specs.List.{list_any}
 use Rattle.gd_item.specs.declared.digest.Digest.{Digest}
 use Rattle.od_merge.specs.declared.content.Content.{Content}
 use Rattle.od_merge.specs.declared.content.Content.TheVariants.{Folder, File}
-use Rattle.od_merge.specs.Sides.{Sides, Tree, at, entry_passes, is_below, is_file, is_from, is_kept, is_kept_node, is_kept_there, is_path, is_skipped, same}
-use Rattle.od_merge.specs.Merging.{is_changed, is_changed_or_skipped, is_conflict, is_conflict_of, moved, renamed_tree}
+use Rattle.od_merge.specs.Sides.{Sides, Tree, at, entry_passes, is_below, is_file, is_from, is_kept, is_kept_node, is_kept_there, is_path, same}
+use Rattle.od_merge.specs.Merging.{is_changed_or_skipped, is_conflict, is_conflict_of, moved, renamed_tree}
 use Rattle.od_merge.specs.Steps.{AreCopies, IsCopy, after_renames}
 use Rattle.od_merge.proofs.Lists.{Path, same-path, text-self}
 use Rattle.od_merge.proofs.SideFacts.{prefixes}

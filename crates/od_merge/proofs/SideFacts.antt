@@ -1,17 +1,16 @@
 -- What is known of a path on each side: whether it is kept there, and whether it goes.
-use Rattle.std.proofs.Common.{◌≡◌, ◌⊎◌, inl, inr, ℕ, Bool, true, false, not, ◌&&◌, ◌||◌, cond, is_none, is_some, nat_eq, nat_lt, length, arith, List, [], ◌∷◌, ◌++◌, Option, Some, None, refl, ap, sym, subst, ◌∙◌}
-use Rattle.std.proofs.lemmas.Bool.{true≢false, false≢true, and_parts, and_from, or_parts, or_from, or_left, or_right, cases_Bool, not-true, not-false, false_from_ne_true, true_from_ne_false, ltb-true, lt-ltb}
+use Rattle.std.proofs.Common.{◌≡◌, ◌⊎◌, inl, inr, ℕ, Bool, true, false, not, ◌&&◌, ◌||◌, is_none, is_some, nat_eq, nat_lt, length, arith, List, [], ◌∷◌, Option, Some, None, refl, ap, sym, subst, ◌∙◌}
+use Rattle.std.proofs.lemmas.Bool.{true≢false, false≢true, and_parts, and_from, or_parts, or_from, or_left, or_right, not-false, ltb-true, lt-ltb}
 use Rattle.std.specs.Cmp.Lexicographic.{pointwise, same_text}
-use Rattle.std.specs.List.{list_any, list_all}
+use Rattle.std.specs.List.{list_any}
 use Rattle.gd_item.specs.declared.digest.Digest.{Digest}
 use Rattle.od_merge.specs.declared.content.Content.{Content}
 use Rattle.od_merge.specs.declared.content.Content.TheVariants.{Folder, File}
 use Rattle.od_merge.specs.Sides.{Sides, at, same, is_path, is_from, is_below, is_folder, is_file, is_other_kind, is_kept, is_skipped, is_kept_there, paths_of}
-use Rattle.od_merge.specs.Merging.{both_paths, is_changed, is_changed_or_skipped, is_conflict, is_conflict_of, is_going, is_going_node, is_left, is_needed, is_staying, is_unwanted, merged, seen, target, wanted}
-use Rattle.od_merge.specs.Steps.{Fits, IsClear}
-use Rattle.od_merge.proofs.Lists.{Path, is_in, text-self, same-path, path-self, from-self, from-through, none-in, none-of, each-of, all-at, in-joined, at-in}
-use Rattle.od_merge.proofs.Needs.{below-from, below-is-from, file-from, file-needs, from-below, makes_needed, merged-either, none-below, none-more, wanted-is}
-use Rattle.od_merge.proofs.Cases.{Going}
+use Rattle.od_merge.specs.Merging.{both_paths, is_changed, is_changed_or_skipped, is_conflict, is_conflict_of, is_going, is_going_node, is_left, is_needed, is_unwanted, target}
+use Rattle.od_merge.specs.Steps.{IsClear}
+use Rattle.od_merge.proofs.Lists.{Path, is_in, text-self, same-path, from-self, none-of, each-of, all-at, in-joined, at-in}
+use Rattle.od_merge.proofs.Needs.{file-from, file-needs, from-below, makes_needed, none-below, none-more}
 
 -- ---- what goes is not wanted, and a file that is not wanted goes
 pub going-at : (s : Sides) (side : List (Path × Content)) (q : Path) (x : Option Content) → at side q ≡ x → is_going_node s side q x ≡ true → is_unwanted s side q ≡ true

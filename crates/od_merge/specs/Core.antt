@@ -1,11 +1,8 @@
 -- The plan where all passes and no copy name is missing.
-use Rattle.std.specs.Prelude.{ℕ, ◌≡◌, Bool, true, false, not, ◌&&◌, ◌||◌, cond, List, [], ◌∷◌, ◌++◌, length, filter, is_some, nat_lt, Option, Some, None}
+use Rattle.std.specs.Prelude.{◌≡◌, Bool, true, List, [], length, is_some, nat_lt, Some, None}
 use Rattle.std.specs.List.{list_any}
-use Rattle.od_merge.specs.declared.content.Content.{Content}
 use Rattle.od_merge.specs.declared.content.Content.TheVariants.{Folder, File}
 use Rattle.od_merge.specs.Sides.{Path, Tree, Sides, is_path, is_below, at}
-use Rattle.od_merge.specs.Merging.{all_paths, both_paths, in_order_from, is_going, is_needed, is_unwanted, target, wanted}
-use Rattle.od_merge.specs.Steps.{is_fetched, is_sent, needs_folder}
 
 abbrev pub core : Tree → Tree → Tree → Sides
 core base local remote = record { passes = λ path folder. true; base = at base; local = local; remote = remote; left = [] }

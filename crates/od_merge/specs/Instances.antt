@@ -1,5 +1,5 @@
 -- Cases of the merge.
-use Rattle.std.specs.Prelude.{ℕ, ◌+◌, ◌*◌, ◌≡◌, Bool, true, false, not, ◌&&◌, ◌||◌, cond, List, [], ◌∷◌, ◌++◌, length, take, drop, map, filter, find, is_some, is_none, nat_eq, nat_lt, Option, Some, None}
+use Rattle.std.specs.Prelude.{ℕ, ◌+◌, Bool, true, false, not, ◌&&◌, ◌||◌, cond, List, [], ◌∷◌, ◌++◌, length, map, filter, nat_eq, nat_lt, Option, Some, None}
 use Rattle.std.specs.List.{list_any}
 use Rattle.std.specs.Cmp.Lexicographic.{pointwise}
 use Rattle.od_merge.specs.declared.content.Content.{Content}
@@ -9,7 +9,7 @@ use Rattle.gd_item.specs.declared.digest.Digest.{Digest}
 use Rattle.od_keeper.specs.declared.image.Agreed.{Agreed}
 use Rattle.od_keeper.specs.declared.image.Agreed.TheVariants as agreed
 use Rattle.od_keeper.specs.declared.image.BaseRow.{BaseRow}
-use Rattle.od_merge.specs.Sides.{Path, Tree, Sides, is_path, is_from, paths_of, is_kept_there, sides_of}
+use Rattle.od_merge.specs.Sides.{Path, Sides, is_path, is_from, paths_of, sides_of}
 use Rattle.od_merge.specs.Pairs.{local_pairs, drive_pairs}
 use Rattle.od_merge.specs.Merging.{Limits, renamed, renames, target, is_going, held, all_paths}
 

@@ -1,18 +1,16 @@
 -- The merge of two sides: which local entries get copy names, what is to stand at each path, what goes, and what is held.
-use Rattle.std.specs.Prelude.{ℕ, ◌+◌, Bool, true, false, not, ◌&&◌, ◌||◌, cond, List, [], ◌∷◌, ◌++◌, length, take, drop, map, filter, find, is_some, is_none, nat_eq, nat_lt, Option, Some, None}
+use Rattle.std.specs.Prelude.{Bool, true, false, not, ◌&&◌, ◌||◌, cond, List, [], ◌∷◌, ◌++◌, length, drop, map, filter, is_some, is_none, Option, Some, None}
 use Rattle.std.specs.List.{list_any, list_all, filter_map}
 use Rattle.std.specs.Option.{option_map}
-use Rattle.std.specs.declared.cmp.Ordering.{Ordering}
-use Rattle.std.specs.Ordering.{nat_cmp, is_lt}
+use Rattle.std.specs.Ordering.{is_lt}
 use Rattle.std.specs.BTreeSet.{insert_key}
-use Rattle.std.specs.Cmp.Lexicographic.{slice_cmp}
 use Rattle.od_merge.specs.declared.content.Content.{Content}
 use Rattle.od_merge.specs.declared.content.Content.TheVariants.{Folder, File}
 use Rattle.od_merge.specs.declared.why.Why.{Why}
 use Rattle.od_merge.specs.declared.why.Why.TheVariants.{BadName, PathTooLong, TooLarge, CaseClash, NoCopyName, Quota}
 use Rattle.gd_names.specs.Causes.{first_cause}
 use Rattle.gd_names.specs.Ordered.{path_cmp}
-use Rattle.od_merge.specs.Sides.{Path, Tree, Sides, is_path, is_from, is_below, at, same, is_folder, is_file, is_other_kind, is_kept, is_skipped, is_kept_there, paths_of}
+use Rattle.od_merge.specs.Sides.{Path, Tree, Sides, is_path, is_from, is_below, at, same, is_file, is_other_kind, is_kept, is_skipped, is_kept_there, paths_of}
 
 -- CONFLICTS
 

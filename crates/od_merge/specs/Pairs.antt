@@ -1,7 +1,6 @@
 -- The moves: what comes to a path and what goes from another one with the same bytes, found in order of path.
-use Rattle.std.specs.Prelude.{ℕ, Bool, true, false, not, ◌&&◌, ◌||◌, cond, List, [], ◌∷◌, ◌++◌, filter, find, is_none, Option, Some, None}
+use Rattle.std.specs.Prelude.{Bool, not, ◌&&◌, ◌||◌, List, [], ◌∷◌, ◌++◌, filter, find, is_none, Option, Some, None}
 use Rattle.std.specs.List.{list_any}
-use Rattle.od_merge.specs.declared.content.Content.{Content}
 use Rattle.od_merge.specs.Sides.{Path, Sides, is_path, at, same, is_file}
 use Rattle.od_merge.specs.Merging.{Limits, all_paths, is_going, target, why_held}
 use Rattle.od_merge.specs.Steps.{is_fetched, is_sent, needs_folder}

@@ -1,6 +1,6 @@
 -- What the merge is given: what both sides agreed on, and the two trees, each a list of entries in order of path.
-use Rattle.std.specs.Prelude.{ℕ, ◌+◌, Bool, true, false, not, ◌&&◌, ◌||◌, cond, List, [], ◌∷◌, ◌++◌, length, take, map, filter, find, is_some, is_none, nat_eq, nat_lt, Option, Some, None}
-use Rattle.std.specs.List.{list_any, list_all, starts_with}
+use Rattle.std.specs.Prelude.{ℕ, Bool, true, false, not, ◌&&◌, ◌||◌, cond, List, [], ◌∷◌, length, map, find, is_some, is_none, nat_eq, nat_lt, Option, Some, None}
+use Rattle.std.specs.List.{list_any, starts_with}
 use Rattle.std.specs.Option.{option_map}
 use Rattle.std.specs.Cmp.Lexicographic.{pointwise}
 use Rattle.od_merge.specs.declared.content.Content.{Content}

@@ -1,9 +1,9 @@
 -- What the plan has done on each side, and what a side has after steps: a step leaves something, or nothing, at its path.
-use Rattle.std.specs.Prelude.{ℕ, zero, suc, ◌+◌, max, ◌≡◌, Bool, true, false, not, ◌&&◌, ◌||◌, cond, List, [], ◌∷◌, ◌++◌, length, map, filter, is_some, is_none, nat_eq, nat_lt, Option, Some, None}
+use Rattle.std.specs.Prelude.{ℕ, zero, suc, ◌+◌, max, ◌≡◌, Bool, true, false, not, ◌&&◌, ◌||◌, cond, List, [], ◌∷◌, ◌++◌, length, map, filter, is_some, nat_eq, nat_lt, Option, Some, None}
 use Rattle.std.specs.List.{list_any}
 use Rattle.od_merge.specs.declared.content.Content.{Content}
 use Rattle.od_merge.specs.declared.content.Content.TheVariants.{Folder, File}
-use Rattle.od_merge.specs.Sides.{Path, Tree, Sides, is_path, is_below, is_from, is_kept_there, at, same, is_folder, is_file, is_skipped, paths_of}
+use Rattle.od_merge.specs.Sides.{Path, Tree, Sides, is_path, is_below, is_from, is_kept_there, at, same, is_folder, is_file, is_skipped}
 use Rattle.od_merge.specs.Merging.{all_paths, renamed_tree, target, is_going, is_left, is_conflict}
 
 -- what stands at a path after steps, by what stood there

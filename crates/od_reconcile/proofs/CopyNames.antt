@@ -1,7 +1,6 @@
 -- Copy names: what the search for one finds, and where a copy's path is.
-use Rattle.std.proofs.Common.{◌≡◌, ◌⊎◌, inl, inr, ℕ, zero, suc, ◌+◌, ◌<◌, ◌≤◌, Bool, true, false, ◌&&◌, ◌||◌, cond, List, [], ◌∷◌, ◌++◌, length, nat_eq, nat_lt, is_none, Option, Some, None, IfSome, IfNone, refl, ap, sym, subst, ◌∙◌, arith, length-append, append_assoc, ◌≢◌, ⊎_elim}
+use Rattle.std.proofs.Common.{◌≡◌, ◌⊎◌, inl, inr, ℕ, zero, suc, ◌+◌, ◌<◌, ◌≤◌, Bool, true, false, cond, List, [], ◌∷◌, ◌++◌, length, nat_lt, is_none, Option, Some, None, IfSome, IfNone, refl, ap, sym, ◌∙◌, arith, length-append, append_assoc, ◌≢◌, ⊎_elim}
 use Rattle.std.proofs.lemmas.Bool.{true≢false, false≢true, lt-ltb, ltb-true, false_from_ne_true, cases_lt}
-use Rattle.std.specs.List.{filter_map}
 use Rattle.std.specs.Option.{option_map, option_to_list}
 use Rattle.gd_names.specs.Copies.{AllTaken, IsLeastCopy, copy_of, is_among}
 use Rattle.od_merge.specs.Merging.{and_taken, copied}
@@ -60,7 +59,7 @@ module _ (name : List ℕ) (folder : Bool) (host : List ℕ) (names : List (List
   least-copy copy least =
       let long : length copy ≡ length (copy_of name folder host 1) = ap (λ (c : List ℕ). length c) least.is ∙ same-length least.number 1 in
       let short : nat_lt 255 (length (copy_of name folder host 1)) ≡ false = false_from_ne_true (nat_lt 255 (length (copy_of name folder host 1)))
-          (λ more. let is = ltb-true 255 (length (copy_of name folder host 1)) more in let within = least.within in omega (arith, is, long, within)) in
+      (λ more. let is = ltb-true 255 (length (copy_of name folder host 1)) more in let within = least.within in omega (arith, is, long, within)) in
       let to = least.to_9999 in
       let free : is_among names (copy_of name folder host least.number) ≡ false = sym (ap (λ (c : List ℕ). is_among names c) least.is) ∙ least.free in
       ap (λ (c : List ℕ). Some c) least.is

@@ -1,13 +1,13 @@
 -- What goes, by what is to stay below it.
-use Rattle.std.proofs.Common.{◌≡◌, ℕ, Bool, true, false, not, ◌&&◌, ◌||◌, cond, List, [], ◌∷◌, ◌++◌, filter, is_some, Option, Some, None, refl, ap, sym, subst, ◌∙◌}
-use Rattle.std.proofs.lemmas.Bool.{true≢false, false≢true, and_parts, and_from, and_left, false_from_ne_true, true_from_ne_false, not-true, not-false}
+use Rattle.std.proofs.Common.{◌≡◌, Bool, true, false, not, ◌&&◌, ◌||◌, List, filter, is_some, Option, Some, None, refl, ap, sym, subst, ◌∙◌}
+use Rattle.std.proofs.lemmas.Bool.{true≢false, false≢true, and_parts, and_from, false_from_ne_true, not-true, not-false}
 use Rattle.std.specs.List.{list_any, list_all}
 use Rattle.od_merge.specs.declared.content.Content.{Content}
 use Rattle.od_merge.specs.declared.content.Content.TheVariants.{Folder, File}
 use Rattle.od_merge.specs.Sides.{Sides, at, is_below, is_from, is_path, paths_of}
 use Rattle.od_merge.specs.Merging.{all_paths, both_paths, is_going, is_going_node, is_unwanted}
 use Rattle.od_reconcile.specs.Looks.{IsSide, goes_by, is_staying_on}
-use Rattle.od_merge.proofs.Lists.{Path, all-at, at-in, each-of, from-self, in-order, is_in, none-in, same-path}
+use Rattle.od_merge.proofs.Lists.{Path, all-at, at-in, each-of, in-order, is_in, none-in, same-path}
 use Rattle.od_merge.proofs.Needs.{below-is-from, from-below}
 use Rattle.od_merge.proofs.SideFacts.{going-at}
 use Rattle.od_merge.proofs.Cores.{any-filter}

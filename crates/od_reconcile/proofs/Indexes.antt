@@ -1,5 +1,5 @@
 -- Indexes of trees and rows, in which the first entry of a path counts, and what is kept by them.
-use Rattle.std.proofs.Common.{◌≡◌, ◌<◌, ◌+◌, suc, length, drop, drop-cons, add-one, get_or, ℕ, Bool, true, false, not, ◌&&◌, ◌||◌, cond, List, [], ◌∷◌, ◌++◌, filter, is_some, Option, Some, None, refl, ap, sym, subst, ◌∙◌}
+use Rattle.std.proofs.Common.{◌≡◌, ◌<◌, ◌+◌, suc, length, drop, drop-cons, add-one, get_or, ℕ, Bool, true, false, ◌&&◌, ◌||◌, cond, List, [], ◌∷◌, filter, is_some, Option, Some, None, refl, ap, sym, subst, ◌∙◌}
 use Rattle.std.proofs.lemmas.Bool.{true≢false, false≢true}
 use Rattle.std.specs.List.{list_any}
 use Rattle.od_merge.specs.declared.content.Content.{Content}
@@ -7,7 +7,7 @@ use Rattle.od_merge.specs.declared.content.Content.TheVariants.{Folder, File}
 use Rattle.od_merge.specs.Sides.{Tree, at, entry_passes, is_from, is_kept, is_kept_node, is_path, paths_of, row_at}
 use Rattle.od_merge.proofs.Lists.{Path, path-self, same-path}
 use Rattle.od_reconcile.specs.Above.{or_else}
-use Rattle.od_reconcile.specs.Ready.{Mark, kept_by, mark_at, mark_or}
+use Rattle.od_reconcile.specs.Ready.{Mark, kept_by, mark_or}
 use Rattle.od_reconcile.proofs.Lookups.{eq-path, map-has}
 use Rattle.od_keeper.specs.declared.image.BaseRow.{BaseRow}
 use Rattle.std.specs.Map.{lookup}

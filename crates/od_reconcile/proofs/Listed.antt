@@ -1,12 +1,12 @@
 -- What the lists of a plan are read from.
-use Rattle.std.proofs.Common.{◌≡◌, ℕ, zero, suc, ◌-◌, ◌<◌, Bool, true, false, ◌||◌, cond, List, [], ◌∷◌, ◌++◌, length, filter, map, not, is_none, ◌&&◌, is_some, nat_eq, Option, Some, None, refl, ap, sym, subst, ◌∙◌, arith}
+use Rattle.std.proofs.Common.{◌≡◌, ℕ, zero, suc, ◌-◌, ◌<◌, Bool, true, false, ◌||◌, cond, List, [], ◌∷◌, ◌++◌, length, filter, map, is_none, ◌&&◌, nat_eq, Option, Some, None, refl, ap, sym, subst, ◌∙◌, arith}
 use Rattle.std.specs.Map.{lookup}
 use Rattle.std.specs.List.{cons_option, filter_map, list_any}
 use Rattle.std.specs.Ordering.{is_eq}
 use Rattle.std.proofs.lemmas.Bool.{or_left, or_right}
 use Rattle.gd_item.specs.declared.item.Item.{Item}
 use Rattle.gd_names.specs.Ordered.{path_cmp}
-use Rattle.od_merge.specs.Merging.{Limits, all_paths, both_paths, is_going, moved, renamed, renamed_tree, renames, why_held}
+use Rattle.od_merge.specs.Merging.{Limits, all_paths, is_going, moved, renamed, renamed_tree, renames, why_held}
 use Rattle.od_merge.specs.Sides.{Sides, Tree, at, digest_of, is_path, paths_of, sides_of}
 use Rattle.od_merge.specs.Steps.{by_depth, deepest_first, is_fetched, is_sent}
 use Rattle.od_merge.proofs.Lists.{Path, at-in, in-joined, is_in}

@@ -1,9 +1,9 @@
 -- What is wanted, needed and unwanted, by what is known of a path.
-use Rattle.std.proofs.Common.{◌≡◌, ℕ, Bool, true, false, not, ◌&&◌, ◌||◌, cond, List, [], ◌∷◌, ◌++◌, filter, is_some, is_none, Option, Some, None, refl, ap, sym, subst, ◌∙◌}
+use Rattle.std.proofs.Common.{◌≡◌, Bool, true, false, ◌&&◌, ◌||◌, List, [], ◌∷◌, ◌++◌, filter, is_some, Option, refl, ap, sym, ◌∙◌}
 use Rattle.std.specs.List.{list_any}
 use Rattle.od_merge.specs.Core.{is_in}
 use Rattle.od_merge.specs.declared.content.Content.{Content}
-use Rattle.od_merge.specs.Sides.{Sides, Tree, at, is_below, is_from, is_kept, is_other_kind, paths_of}
+use Rattle.od_merge.specs.Sides.{Sides, Tree, at, is_below, is_from, is_kept, paths_of}
 use Rattle.od_merge.specs.Merging.{all_paths, both_paths, is_left, is_needed, is_staying, is_unwanted, target, wanted}
 use Rattle.od_merge.proofs.Lists.{Path}
 use Rattle.od_merge.proofs.Cores.{any-filter, any-order}
@@ -58,8 +58,8 @@ needed-is s q above staying above_is staying_is =
     let wants = λ (o : Path). is_below q o && is_some (wanted s o) in
     let stays = λ (o : Path). is_from q o && is_staying s o in
     let first : is_in q above ≡ (list_any wants (both_paths s) || list_any (λ top. is_below q top) s.left) =
-        above_is ∙ (any-joined (λ o. is_below q o) (filter (λ p. is_some (wanted s p)) (all_paths s)) s.left
-        ∙ ap (λ b. b || list_any (λ top. is_below q top) s.left) (any-filter (λ o. is_below q o) (λ p. is_some (wanted s p)) (all_paths s) ∙ any-order wants [] (both_paths s))) in
+    above_is ∙ (any-joined (λ o. is_below q o) (filter (λ p. is_some (wanted s p)) (all_paths s)) s.left
+    ∙ ap (λ b. b || list_any (λ top. is_below q top) s.left) (any-filter (λ o. is_below q o) (λ p. is_some (wanted s p)) (all_paths s) ∙ any-order wants [] (both_paths s))) in
     let second : is_in q staying ≡ list_any stays (both_paths s) = staying_is ∙ (any-filter (λ o. is_from q o) (is_staying s) (all_paths s) ∙ any-order stays [] (both_paths s)) in
     ap (λ b. b || is_in q staying) first
     ∙ (ap (λ b. (list_any wants (both_paths s) || list_any (λ top. is_below q top) s.left) || b) second

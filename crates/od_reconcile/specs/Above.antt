@@ -1,5 +1,5 @@
 -- Sets of folders above paths, by which it is asked whether something stands below a path.
-use Rattle.std.specs.Prelude.{ℕ, ◌≡◌, Bool, List, [], ◌∷◌, ◌++◌, Option, Some, None}
+use Rattle.std.specs.Prelude.{List, [], ◌∷◌, ◌++◌, Option, Some, None}
 use Rattle.od_merge.specs.Sides.{Path}
 use Rattle.od_merge.specs.Merging.{in_order_from}
 

@@ -1,5 +1,5 @@
 -- Which entries the drive does not take, and what a plan of held entries has ready.
-use Rattle.std.specs.Prelude.{ℕ, ◌≡◌, Bool, true, false, not, ◌&&◌, ◌||◌, cond, List, [], ◌∷◌, filter, is_some, nat_lt, Option, Some, None}
+use Rattle.std.specs.Prelude.{ℕ, ◌≡◌, Bool, false, not, ◌&&◌, ◌||◌, List, is_some, nat_lt, Option}
 use Rattle.std.specs.List.{list_any, filter_map}
 use Rattle.std.specs.Option.{option_map}
 use Rattle.std.specs.Cmp.Lexicographic.{pointwise}
@@ -11,7 +11,6 @@ use Rattle.gd_names.specs.Paths.{is_fitting}
 use Rattle.od_merge.specs.Core.{is_in}
 use Rattle.od_merge.specs.Merging.{Limits, all_paths, is_going, target, why_held}
 use Rattle.od_merge.specs.Sides.{Path, Sides, at, is_path}
-use Rattle.od_merge.specs.declared.why.Why.{Why}
 use Rattle.od_reconcile.specs.Looks.{HasStuck, IsReady, merge_sides}
 use Rattle.od_reconcile.specs.declared.holding.Limiter.{Limiter}
 use Rattle.od_reconcile.specs.declared.types.Held.{Held}

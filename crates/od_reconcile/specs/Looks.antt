@@ -1,5 +1,5 @@
 -- What a look at both sides after the renames has ready.
-use Rattle.std.specs.Prelude.{ℕ, ◌≡◌, Bool, true, false, not, ◌&&◌, ◌||◌, cond, List, [], ◌∷◌, filter, is_none, is_some, Option, Some, None}
+use Rattle.std.specs.Prelude.{◌≡◌, Bool, true, false, not, ◌&&◌, ◌||◌, cond, List, filter, is_none, is_some, Option, Some, None}
 use Rattle.std.specs.List.{list_any}
 use Rattle.od_merge.specs.Core.{is_in}
 use Rattle.od_merge.specs.Merging.{all_paths, both_paths, is_needed, is_unwanted, merged}

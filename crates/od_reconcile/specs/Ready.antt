@@ -1,5 +1,5 @@
 -- What a plan stands on: both sides and what was agreed on, made ready for look-ups.
-use Rattle.std.specs.Prelude.{ℕ, ◌≡◌, Bool, true, false, not, ◌&&◌, ◌||◌, cond, List, [], ◌∷◌, filter, Option, Some, None}
+use Rattle.std.specs.Prelude.{ℕ, ◌≡◌, Bool, false, not, ◌&&◌, List, [], Option, Some, None}
 use Rattle.std.specs.List.{list_any}
 use Rattle.std.specs.Map.{lookup}
 use Rattle.std.specs.Ordering.{is_eq}
@@ -8,7 +8,7 @@ use Rattle.gd_names.specs.Ordered.{path_cmp}
 use Rattle.od_keeper.specs.declared.image.Agreed.{Agreed}
 use Rattle.od_keeper.specs.declared.image.BaseRow.{BaseRow}
 use Rattle.od_merge.specs.Core.{is_in}
-use Rattle.od_merge.specs.Sides.{Path, Tree, Sides, at, entry_passes, is_from, row_at, same, sides_of}
+use Rattle.od_merge.specs.Sides.{Path, Sides, at, entry_passes, is_from, row_at, same, sides_of}
 use Rattle.od_merge.specs.Merging.{is_changed, is_changed_or_skipped}
 use Rattle.od_merge.specs.declared.content.Content.{Content}
 use Rattle.od_merge.specs.declared.content.Content.TheVariants.{Folder, File}

@@ -115,7 +115,10 @@ fn agreed_by(
     }
 }
 
-fn mark_on(marks: &BTreeMap<Path, (Agreed, Option<Digest>)>, path: &Path) -> (Agreed, Option<Digest>)
+fn mark_on(
+    marks: &BTreeMap<Path, (Agreed, Option<Digest>)>,
+    path: &Path,
+) -> (Agreed, Option<Digest>)
     ensures { result ≡ mark_or (mark_at marks.now.entries path.now) (row_at [] path.now) }
 {
     match marks.get(path) {
@@ -150,10 +153,7 @@ pub(crate) fn is_changed(both: &Both<'_>, path: &Path) -> bool
     requires { IsBothReady both.now }
     ensures { result ≡ is_changed (sides_found both.now) path.now }
 {
-    !is_same(
-        standing(both.rules, &both.here, path),
-        base_at(both, path),
-    )
+    !is_same(standing(both.rules, &both.here, path), base_at(both, path))
 }
 
 pub(crate) fn is_changed_or_skipped(both: &Both<'_>, path: &Path) -> bool

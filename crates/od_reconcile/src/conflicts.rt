@@ -5,9 +5,9 @@ ghost use Rattle.od_merge.specs.Merging.{conflicts, is_changed_or_skipped, is_co
 ghost use Rattle.od_merge.specs.Sides.{is_from, paths_of};
 ghost use Rattle.od_reconcile.specs.Ready.{IsBothReady, conflict_by, sides_found, HasEdited, changed_twice};
 
+use crate::both::{Both, base_at, is_changed, is_changed_or_skipped, is_kept_there};
 use crate::entries::is_same;
 use crate::folders::{from_all, has};
-use crate::both::{Both, base_at, is_changed, is_changed_or_skipped, is_kept_there};
 use crate::side::standing;
 use gd_names::{NoMemory, Path};
 use od_merge::Content;

@@ -16,8 +16,8 @@ use crate::entries::{is_file, is_other_kind, is_same};
 use crate::folders::{has, set_of};
 use crate::look::{Look, is_going, stuck_on, target};
 use crate::merge::{here_at, is_left, there_at};
-use crate::types::{Held, Node};
 use crate::side::is_kept;
+use crate::types::{Held, Node};
 use gd_names::{List, NoMemory, Path, Text, check_name, path_fits, same_caseless};
 use od_merge::Why;
 use std::alloc::Global;
@@ -192,7 +192,13 @@ fn is_local_alone(look: &Look<'_>, path: &Path) -> bool
         && here.is_some()
 }
 
-fn first_cause(bad_name: bool, too_long: bool, too_large: bool, clashing: bool, full: bool) -> Option<Why>
+fn first_cause(
+    bad_name: bool,
+    too_long: bool,
+    too_large: bool,
+    clashing: bool,
+    full: bool,
+) -> Option<Why>
     ensures { result ≡ first_cause ((bad_name, BadName) ∷ (too_long, PathTooLong) ∷ (too_large, TooLarge) ∷ (clashing, CaseClash) ∷ (full, Quota) ∷ []) }
 {
     if bad_name {

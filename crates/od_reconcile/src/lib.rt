@@ -10,10 +10,10 @@ mod holding;
 mod listing;
 mod look;
 mod merge;
-mod types;
 mod planning;
 mod side;
 mod steps;
+mod types;
 
 pub use od_merge::Why;
 pub use planning::plan;

@@ -16,9 +16,9 @@ use crate::entries::{local_tree, remote_tree};
 use crate::holding::{held, limiter_of};
 use crate::look::look_at;
 use crate::merge::Merge;
-use crate::types::{Down, Held, Node, Plan, Rename, Up};
 use crate::side::side_of;
 use crate::steps::{down_list, up_list};
+use crate::types::{Down, Held, Node, Plan, Rename, Up};
 use gd_item::Item;
 use gd_names::{List, NoMemory, Path, Text};
 use od_keeper::BaseRow;
@@ -68,11 +68,7 @@ fn steps_of(
 }
 
 /// Puts an item at a path where none stands.
-fn put_absent(
-    index: &mut BTreeMap<Path, Item>,
-    path: &Path,
-    item: &Item,
-) -> Result<(), NoMemory>
+fn put_absent(index: &mut BTreeMap<Path, Item>, path: &Path, item: &Item) -> Result<(), NoMemory>
     ensures { OnOk result ((q : List (List ℕ)) → item_at index.new.entries q ≡ or_else (item_at index.old.entries q) (cond (is_path path.now q) (Some item.now) None)) }
 {
     if index.contains_key(path) {
@@ -84,10 +80,7 @@ fn put_absent(
 }
 
 /// The drive's items by path, for quick look-ups.
-fn index_of(
-    alloc: Global,
-    items: &[(Path, Item)],
-) -> Result<BTreeMap<Path, Item>, NoMemory>
+fn index_of(alloc: Global, items: &[(Path, Item)]) -> Result<BTreeMap<Path, Item>, NoMemory>
     ensures { IfOk result (λ index. (path : List (List ℕ)) → item_at index.entries path ≡ item_at items.now path) }
 {
     let mut found = BTreeMap::new(alloc);
@@ -148,8 +141,21 @@ pub fn plan(
     let items = remote.paths(alloc)?;
     let here = local_tree(alloc, local.as_slice())?;
     let there = remote_tree(alloc, items.as_slice())?;
-    let both = both_of(alloc, rules, rows.as_slice(), here.as_slice(), there.as_slice())?;
+    let both = both_of(
+        alloc,
+        rules,
+        rows.as_slice(),
+        here.as_slice(),
+        there.as_slice(),
+    )?;
     let index = index_of(alloc, items.as_slice())?;
-    let plan = plan_over(alloc, host, &both, local.as_slice(), &index, quota.as_slice())?;
+    let plan = plan_over(
+        alloc,
+        host,
+        &both,
+        local.as_slice(),
+        &index,
+        quota.as_slice(),
+    )?;
     Ok(plan)
 }

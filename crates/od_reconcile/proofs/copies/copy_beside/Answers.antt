@@ -11,7 +11,7 @@ returns c =
     let above = c.in-Some.parts.0 in
     let name = c.in-Some.parts.1 in
     let parts : path ≡ above ++ name ∷ [] =
-        subst (λ (o : Option (Path × List ℕ)). MatchOption o (path ≡ []) (λ p. path ≡ p.0 ++ p.1 ∷ [])) c.in-Some.is c.in_ok-parts.ensures in
+    subst (λ (o : Option (Path × List ℕ)). MatchOption o (path ≡ []) (λ p. path ≡ p.0 ++ p.1 ∷ [])) c.in-Some.is c.in_ok-parts.ensures in
     c.in_ok-found.ensures
     ∙ (ap (λ x. option_map (λ last. above ++ last ∷ []) x)
     (c.in_ok-copy.ensures ∙ ap (λ (names : List (List ℕ)). copy_among name c.args.folder c.args.host.now names) (c.in_ok-names.ensures ∙ ap (λ (ps : Path). names_in ps c.args.taken.now) c.as_slice.ensures))

@@ -19,8 +19,8 @@ loop-path-preserved c =
     let less : i < length conflicts = omega arith in
     let left : drop i conflicts ≡ (path ∷ drop (i + 1) conflicts) = drop-next conflicts i path less c.path-item.is in
     let to : c.in_ok-to.to ≡ copy taken path = c.in_ok-to.ensures
-        ∙ (ap (λ (ps : List Path). copy_beside host c.is_folder-folder.result ps path) c.as_slice.ensures.value
-        ∙ ap (λ (f : Bool). copy_beside host f taken path) (c.is_folder-folder.ensures ∙ ap (λ x. is_folder x) c.standing.ensures)) in
+    ∙ (ap (λ (ps : List Path). copy_beside host c.is_folder-folder.result ps path) c.as_slice.ensures.value
+    ∙ ap (λ (f : Bool). copy_beside host f taken path) (c.is_folder-folder.ensures ∙ ap (λ x. is_folder x) c.standing.ensures)) in
     let put = c.in_ok-add_copy.ensures in (
       moves-step copy path c.in_ok-to.to taken c.add_copy.new.taken.items (drop i conflicts) (drop (i + 1) conflicts) c.loop-path.copies.renames.items c.add_copy.new.copies.renames.items
           (moves_of (copied copy c.args.taken.now.items conflicts)) left to put.taken c.loop-path.invariant.0 put.renames,

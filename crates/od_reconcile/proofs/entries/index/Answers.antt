@@ -1,6 +1,6 @@
 use Rattle.std.proofs.Common.{◌<◌, ◌+◌, length, drop, arith}
 use Rattle.od_merge.specs.Sides.{at}
-use Rattle.od_reconcile.proofs.Indexes.{drop-next, index-more, indexed}
+use Rattle.od_reconcile.proofs.Indexes.{drop-next, index-more}
 use Rattle.od_reconcile.proofs.entries.index.Goals as goal
 
 pub loop-entry-preserved : goal.loop-entry-preserved

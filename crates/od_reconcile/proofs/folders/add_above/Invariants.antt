@@ -1,6 +1,6 @@
 use Rattle.std.proofs.Common.{◌≡◌, [], drop}
 use Rattle.od_merge.specs.Merging.{in_order_from}
-use Rattle.od_reconcile.specs.Above.{fronts_from, with_fronts}
+use Rattle.od_reconcile.specs.Above.{fronts_from}
 use Rattle.od_reconcile.proofs.folders.add_above.Given as goal
 
 abbrev pub invariant-loop-name : goal.invariant-loop-name

@@ -1,6 +1,5 @@
-use Rattle.std.proofs.Common.{◌≡◌, [], drop}
+use Rattle.std.proofs.Common.{◌≡◌, drop}
 use Rattle.od_merge.specs.Merging.{in_order_from}
-use Rattle.od_reconcile.specs.Above.{fronts_from, with_fronts}
 use Rattle.od_reconcile.proofs.folders.add_all.Given as goal
 
 abbrev pub invariant-loop-path : goal.invariant-loop-path

@@ -1,4 +1,4 @@
-use Rattle.std.proofs.Common.{◌≡◌, ◌∙◌, ap, List, []}
+use Rattle.std.proofs.Common.{◌∙◌, ap, List}
 use Rattle.od_merge.specs.Core.{is_in}
 use Rattle.od_merge.specs.Merging.{in_order_from}
 use Rattle.od_merge.proofs.Lists.{Path, in-order}

@@ -1,5 +1,4 @@
-use Rattle.std.proofs.Common.{◌≡◌, ◌++◌, ℕ, List, map, filter, drop, is_some, []}
-use Rattle.std.specs.List.{list_any, filter_map}
+use Rattle.std.proofs.Common.{◌≡◌, drop}
 use Rattle.od_merge.specs.Merging.{first_held, prefixes, prefixes_from}
 use Rattle.od_reconcile.specs.Holding.{limiter_limits, limiter_sides}
 use Rattle.od_reconcile.proofs.holding.first_held.Given as goal

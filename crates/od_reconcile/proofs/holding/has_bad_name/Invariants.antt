@@ -1,5 +1,4 @@
-use Rattle.std.proofs.Common.{◌≡◌, ◌++◌, ℕ, List, map, filter, drop, is_some, []}
-use Rattle.std.specs.List.{list_any, filter_map}
+use Rattle.std.proofs.Common.{◌≡◌, drop}
 use Rattle.od_reconcile.specs.Holding.{has_bad_name}
 use Rattle.od_reconcile.proofs.holding.has_bad_name.Given as goal
 

@@ -1,5 +1,5 @@
-use Rattle.std.proofs.Common.{◌≡◌, ◌++◌, ℕ, List, map, filter, drop, is_some, []}
-use Rattle.std.specs.List.{list_any, filter_map}
+use Rattle.std.proofs.Common.{◌≡◌, ◌++◌}
+use Rattle.std.specs.List.{filter_map}
 use Rattle.od_reconcile.specs.Holding.{held_of, limiter_limits, limiter_sides}
 use Rattle.od_reconcile.proofs.holding.held.Given as goal
 

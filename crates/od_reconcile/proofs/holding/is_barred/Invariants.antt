@@ -1,5 +1,5 @@
-use Rattle.std.proofs.Common.{◌≡◌, ◌++◌, ℕ, List, map, filter, drop, is_some, []}
-use Rattle.std.specs.List.{list_any, filter_map}
+use Rattle.std.proofs.Common.{◌≡◌}
+use Rattle.std.specs.List.{list_any}
 use Rattle.od_reconcile.specs.Holding.{bars, limiter_sides}
 use Rattle.od_reconcile.proofs.holding.is_barred.Given as goal
 

@@ -1,5 +1,5 @@
-use Rattle.std.proofs.Common.{◌≡◌, ◌++◌, ℕ, List, map, filter, drop, is_some, []}
-use Rattle.std.specs.List.{list_any, filter_map}
+use Rattle.std.proofs.Common.{◌≡◌, drop}
+use Rattle.std.specs.List.{list_any}
 use Rattle.od_merge.specs.Merging.{is_barred, prefixes, prefixes_from}
 use Rattle.od_reconcile.specs.Holding.{limiter_limits, limiter_sides}
 use Rattle.od_reconcile.proofs.holding.is_clashing.Given as goal

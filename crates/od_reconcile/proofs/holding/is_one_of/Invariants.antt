@@ -1,5 +1,4 @@
-use Rattle.std.proofs.Common.{◌≡◌, ◌++◌, ℕ, List, map, filter, drop, is_some, []}
-use Rattle.std.specs.List.{list_any, filter_map}
+use Rattle.std.proofs.Common.{◌≡◌, drop}
 use Rattle.od_merge.specs.Core.{is_in}
 use Rattle.od_reconcile.proofs.holding.is_one_of.Given as goal
 

@@ -1,5 +1,4 @@
-use Rattle.std.proofs.Common.{◌≡◌, ◌++◌, ℕ, List, map, filter, drop, is_some, []}
-use Rattle.std.specs.List.{list_any, filter_map}
+use Rattle.std.proofs.Common.{◌≡◌, ◌++◌, ℕ, List, map, filter, drop}
 use Rattle.od_reconcile.specs.Holding.{is_large}
 use Rattle.od_reconcile.specs.declared.types.Node.{Node}
 use Rattle.od_reconcile.proofs.holding.large_paths.Given as goal

@@ -1,5 +1,4 @@
-use Rattle.std.proofs.Common.{length, ◌≡◌, ◌++◌, ℕ, List, map, filter, drop, is_some, []}
-use Rattle.std.specs.List.{list_any, filter_map}
+use Rattle.std.proofs.Common.{length, ◌≡◌}
 use Rattle.od_reconcile.specs.Holding.{same_caseless_path}
 use Rattle.od_reconcile.proofs.holding.same_caseless_path.Given as goal
 

@@ -1,4 +1,4 @@
-use Rattle.std.proofs.Common.{◌≡◌, ◌++◌, filter, drop, is_some}
+use Rattle.std.proofs.Common.{◌≡◌, ◌++◌, drop}
 use Rattle.od_reconcile.proofs.look.add_copies.Given as goal
 
 abbrev pub invariant-loop-path : goal.invariant-loop-path

@@ -1,6 +1,6 @@
-use Rattle.std.proofs.Common.{ap, sym, List, [], ◌∙◌, ◌++◌, filter, is_some}
+use Rattle.std.proofs.Common.{ap, List, ◌∙◌, ◌++◌, filter, is_some}
 use Rattle.std.specs.List.{list_any}
-use Rattle.od_merge.specs.Merging.{all_paths, is_staying, wanted}
+use Rattle.od_merge.specs.Merging.{is_staying, wanted}
 use Rattle.od_merge.specs.Sides.{is_below, is_from}
 use Rattle.od_merge.proofs.Lists.{Path}
 use Rattle.od_reconcile.specs.Looks.{merge_sides}

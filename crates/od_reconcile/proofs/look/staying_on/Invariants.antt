@@ -1,4 +1,4 @@
-use Rattle.std.proofs.Common.{◌≡◌, ◌++◌, filter, drop, is_some}
+use Rattle.std.proofs.Common.{◌≡◌, ◌++◌, filter}
 use Rattle.od_reconcile.specs.Looks.{is_staying_on, merge_sides}
 use Rattle.od_reconcile.proofs.look.staying_on.Given as goal
 

@@ -1,6 +1,6 @@
 use Rattle.std.proofs.Common.{ap, List, ◌∙◌}
 use Rattle.std.specs.List.{list_any}
-use Rattle.od_merge.specs.Sides.{is_below, is_skipped, paths_of}
+use Rattle.od_merge.specs.Sides.{is_below, is_skipped}
 use Rattle.od_merge.proofs.Lists.{Path}
 use Rattle.od_reconcile.specs.Looks.{merge_sides}
 use Rattle.od_reconcile.proofs.Wanting.{skipped-any}

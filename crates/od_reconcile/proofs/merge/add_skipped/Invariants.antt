@@ -1,4 +1,4 @@
-use Rattle.std.proofs.Common.{◌≡◌, ◌++◌, filter, drop, is_some}
+use Rattle.std.proofs.Common.{◌≡◌, ◌++◌, filter, drop}
 use Rattle.od_merge.specs.Sides.{is_skipped, paths_of}
 use Rattle.od_synclist.specs.Rules.{passes_file}
 use Rattle.od_reconcile.proofs.merge.add_skipped.Given as goal

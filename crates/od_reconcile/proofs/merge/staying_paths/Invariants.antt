@@ -1,4 +1,4 @@
-use Rattle.std.proofs.Common.{◌≡◌, ◌++◌, filter, drop, is_some}
+use Rattle.std.proofs.Common.{◌≡◌, ◌++◌, filter}
 use Rattle.od_merge.specs.Merging.{is_staying}
 use Rattle.od_reconcile.specs.Looks.{merge_sides}
 use Rattle.od_reconcile.proofs.merge.staying_paths.Given as goal

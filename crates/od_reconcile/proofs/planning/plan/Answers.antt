@@ -17,8 +17,8 @@ returns c =
     let items = paths_of c.args.remote.now.items in
     let ready = c.in_ok-both.ensures in
     let sides : sides_found c.in_ok-both.both ≡ begun rules rows local items = found-alike ready.rules (ready.rows ∙ c.as_slice-3.ensures)
-        (ready.here ∙ (c.as_slice-4.ensures.value ∙ (c.in_ok-here.ensures ∙ ap (λ (es : List (Path × Node)). local_tree es) c.as_slice.ensures)))
-        (ready.there ∙ (c.as_slice-5.ensures.value ∙ (c.in_ok-there.ensures ∙ ap (λ (es : List (Path × Item)). remote_tree es) (c.as_slice-2.ensures ∙ c.in_ok-items.ensures)))) in
+    (ready.here ∙ (c.as_slice-4.ensures.value ∙ (c.in_ok-here.ensures ∙ ap (λ (es : List (Path × Node)). local_tree es) c.as_slice.ensures)))
+    (ready.there ∙ (c.as_slice-5.ensures.value ∙ (c.in_ok-there.ensures ∙ ap (λ (es : List (Path × Item)). remote_tree es) (c.as_slice-2.ensures ∙ c.in_ok-items.ensures)))) in
     plan-is c.args.host.now (sides_found c.in_ok-both.both) (begun rules rows local items) c.as_slice-7.result.now local c.as_slice-8.result.now c.args.quota.now
     c.in_ok-index.index.entries items c.in_ok-plan.plan sides c.as_slice-7.ensures c.as_slice-8.ensures
     (λ path. c.in_ok-index.ensures path ∙ ap (λ (es : List (Path × Item)). item_at es path) (c.as_slice-6.ensures ∙ c.in_ok-items.ensures)) c.in_ok-plan.ensures

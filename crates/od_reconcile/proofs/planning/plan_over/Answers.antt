@@ -5,7 +5,6 @@ use Rattle.od_merge.proofs.Lists.{Path}
 use Rattle.od_reconcile.specs.Copying.{copy_path, renamed_entries}
 use Rattle.od_reconcile.specs.Entries.{local_tree}
 use Rattle.od_reconcile.specs.Holding.{held_list, limits_of}
-use Rattle.od_reconcile.specs.Looks.{merge_sides}
 use Rattle.od_reconcile.specs.Plans.{down_list, rename_of, up_list}
 use Rattle.od_reconcile.specs.Ready.{sides_found}
 use Rattle.od_reconcile.specs.declared.types.Node.{Node}
@@ -22,11 +21,11 @@ returns c =
     let items = c.args.items.now.entries in
     let quota = c.args.quota.now in
     let entries : c.in_ok-entries.entries.items ≡ renamed_entries moves local =
-        c.in_ok-entries.ensures ∙ ap (λ (ms : List (Path × Path)). renamed_entries ms local) (c.as_slice.ensures.value ∙ c.in_ok-copies.ensures.renames) in
+    c.in_ok-entries.ensures ∙ ap (λ (ms : List (Path × Path)). renamed_entries ms local) (c.as_slice.ensures.value ∙ c.in_ok-copies.ensures.renames) in
     let trees : c.in_ok-here.here.tree.now ≡ renamed_tree moves s.local =
-        c.in_ok-here.ensures.tree ∙ (c.as_slice-3.ensures.value ∙ (c.in_ok-tree.ensures
-        ∙ (ap (λ (es : List (Path × Node)). local_tree es) (c.as_slice-2.ensures.value ∙ entries)
-        ∙ (renamed-contents moves local ∙ ap (λ (t : Tree). renamed_tree moves t) (sym c.requires.here))))) in
+    c.in_ok-here.ensures.tree ∙ (c.as_slice-3.ensures.value ∙ (c.in_ok-tree.ensures
+    ∙ (ap (λ (es : List (Path × Node)). local_tree es) (c.as_slice-2.ensures.value ∙ entries)
+    ∙ (renamed-contents moves local ∙ ap (λ (t : Tree). renamed_tree moves t) (sym c.requires.here))))) in
     let lefts : c.as_slice-4.result.now ≡ without_copy copy s = c.as_slice-4.ensures.value ∙ c.in_ok-copies.ensures.left in
     let sides = sides-then s c.in_ok-here.here.tree.now (renamed_tree moves s.local) c.as_slice-4.result.now (without_copy copy s) trees lefts in
     let then : c.as_slice-5.result.now ≡ renamed_entries moves local = c.as_slice-5.ensures.value ∙ entries in

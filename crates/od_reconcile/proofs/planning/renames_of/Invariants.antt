@@ -1,5 +1,4 @@
-use Rattle.std.proofs.Common.{◌≡◌, ◌++◌, ℕ, List, map, max, filter, drop, length, nat_eq, []}
-use Rattle.std.specs.List.{filter_map}
+use Rattle.std.proofs.Common.{◌≡◌, ◌++◌, map, drop}
 use Rattle.od_reconcile.specs.Plans.{rename_of}
 use Rattle.od_reconcile.proofs.planning.renames_of.Given as goal
 

@@ -1,6 +1,6 @@
-use Rattle.std.proofs.Common.{◌≡◌, ◌++◌, ℕ, List, map, max, filter, drop, length, nat_eq, []}
+use Rattle.std.proofs.Common.{◌≡◌, ◌++◌, drop}
 use Rattle.std.specs.List.{filter_map}
-use Rattle.od_reconcile.specs.Holding.{limiter_limits, limiter_sides}
+use Rattle.od_reconcile.specs.Holding.{limiter_sides}
 use Rattle.od_reconcile.specs.Plans.{removal_there}
 use Rattle.od_reconcile.proofs.steps.add_removals_there.Given as goal
 

@@ -1,4 +1,4 @@
-use Rattle.std.proofs.Common.{◌≡◌, ◌++◌, ℕ, List, map, max, filter, drop, length, nat_eq, []}
+use Rattle.std.proofs.Common.{◌≡◌, ◌++◌}
 use Rattle.std.specs.List.{filter_map}
 use Rattle.od_reconcile.specs.Holding.{limiter_limits, limiter_sides}
 use Rattle.od_reconcile.specs.Plans.{send_there}
