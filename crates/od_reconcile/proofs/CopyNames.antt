@@ -77,7 +77,7 @@ module _ (name : List ℕ) (folder : Bool) (host : List ℕ) (names : List (List
   copy-is (Some copy) some none_is = least-copy copy some
 
 -- the folder and the name of a path
-folder-end : (folder : Path) (name : List ℕ) → folder_of (folder ++ name ∷ []) ≡ folder
+pub folder-end : (folder : Path) (name : List ℕ) → folder_of (folder ++ name ∷ []) ≡ folder
 folder-end [] name = refl
 folder-end (top ∷ []) name = refl
 folder-end (top ∷ (next ∷ folder)) name = ap (λ (path : Path). top ∷ path) (folder-end (next ∷ folder) name)

@@ -1,17 +1,20 @@
 -- What the lists of a plan are read from.
-use Rattle.std.proofs.Common.{◌≡◌, ℕ, zero, suc, ◌-◌, ◌<◌, Bool, true, false, ◌||◌, cond, List, [], ◌∷◌, ◌++◌, length, filter, map, is_none, ◌&&◌, nat_eq, Option, Some, None, refl, ap, sym, subst, ◌∙◌, arith}
+use Rattle.std.proofs.Common.{◌≡◌, ℕ, zero, suc, ◌-◌, ◌<◌, Bool, true, false, ◌||◌, cond, List, [], ◌∷◌, ◌++◌, length, filter, map, ◌&&◌, nat_eq, Option, Some, None, refl, ap, sym, subst, ◌∙◌, arith, not}
 use Rattle.std.specs.Map.{lookup}
 use Rattle.std.specs.List.{cons_option, filter_map, list_any}
 use Rattle.std.specs.Ordering.{is_eq}
 use Rattle.std.proofs.lemmas.Bool.{or_left, or_right}
 use Rattle.gd_item.specs.declared.item.Item.{Item}
 use Rattle.gd_names.specs.Ordered.{path_cmp}
-use Rattle.od_merge.specs.Merging.{Limits, all_paths, is_going, moved, renamed, renamed_tree, renames, why_held}
-use Rattle.od_merge.specs.Sides.{Sides, Tree, at, digest_of, is_path, paths_of, sides_of}
-use Rattle.od_merge.specs.Steps.{by_depth, deepest_first, is_fetched, is_sent}
+use Rattle.od_merge.specs.Merging.{Limits, all_paths, is_going, moved, renamed, renamed_tree, renames, target}
+use Rattle.od_merge.proofs.Cores.{any-filter}
+use Rattle.od_merge.specs.Sides.{Sides, Tree, at, digest_of, is_path, paths_of, sides_of, same}
+use Rattle.od_merge.specs.Steps.{by_depth, deepest_first, is_fetched}
 use Rattle.od_merge.proofs.Lists.{Path, at-in, in-joined, is_in}
 use Rattle.od_reconcile.specs.Looks.{IsSide}
-use Rattle.od_reconcile.specs.Plans.{delete_of, down_list, fetch_here, fetch_of, folder_here, folder_there, item_at, over_of, removal_here, removal_there, send_there, up_list, IsPlanOf}
+use Rattle.od_reconcile.specs.Plans.{IsPlanOf, delete_of, down_list, fetch_here, fetch_of, fetch_or_move, folder_here, folder_there, item_at, over_of, patch_of, patch_there, removal_here, removal_there, send_there, up_list}
+use Rattle.od_reconcile.specs.Moving.{is_moved_from, is_moved_to, pair_to}
+use Rattle.od_merge.specs.Pairs.{and_pair, comes_there, folder_of, may_move, drive_pairs, is_sent_now, local_pairs, pairs_from, source_for}
 use Rattle.od_reconcile.specs.Copying.{copy_path, renamed_entries}
 use Rattle.od_reconcile.specs.Entries.{local_tree, node_content}
 use Rattle.od_reconcile.specs.Holding.{limits_of}
@@ -77,21 +80,30 @@ pub as-item : (q path : Path) (item : Item) (old new : List (Path × Item)) → 
 as-item q path item old new put = sym (item-found q new) ∙ (put ∙ ap (λ x. or_else x (cond (is_path path q) (Some item) None)) (item-found q old))
 
 -- ---- lists of steps by two indexes that have the same
-pub maps-alike : {X : Type 0} (f g : Path → Option X) → ((path : Path) → f path ≡ g path) → (paths : List Path) → filter_map f paths ≡ filter_map g paths
+pub maps-alike : {X Y : Type 0} (f g : Y → Option X) → ((y : Y) → f y ≡ g y) → (ys : List Y) → filter_map f ys ≡ filter_map g ys
 maps-alike f g same [] = refl
-maps-alike f g same (path ∷ paths) = ap (λ x. cons_option x (filter_map f paths)) (same path) ∙ ap (λ xs. cons_option (g path) xs) (maps-alike f g same paths)
+maps-alike f g same (y ∷ ys) = ap (λ x. cons_option x (filter_map f ys)) (same y) ∙ ap (λ xs. cons_option (g y) xs) (maps-alike f g same ys)
+
+either-alike : (m : Sides) (a b : List (Path × Item)) → ((path : Path) → item_at a path ≡ item_at b path) → (path : Path) (pair : Option (Path × Path)) → fetch_or_move m a path pair ≡ fetch_or_move m b path pair
+either-alike m a b same path None = ap (λ item. fetch_of path item (digest_of (at m.local path))) (same path)
+either-alike m a b same path (Some pair) = refl
 
 pub down-alike : (m : Sides) (a b : List (Path × Item)) → ((path : Path) → item_at a path ≡ item_at b path) → down_list m a ≡ down_list m b
 down-alike m a b same =
-    ap (λ steps. filter_map (removal_here m) (deepest_first (all_paths m)) ++ (filter_map (folder_here m) (all_paths m) ++ steps))
-    (maps-alike (fetch_here m a) (fetch_here m b) (λ path. ap (λ item. cond (is_fetched m path) (fetch_of path item (digest_of (at m.local path))) None) (same path)) (all_paths m))
+    ap (λ steps. filter_map (removal_here m (local_pairs m)) (deepest_first (all_paths m)) ++ (filter_map (folder_here m) (all_paths m) ++ steps))
+    (maps-alike (fetch_here m a (local_pairs m)) (fetch_here m b (local_pairs m))
+    (λ path. ap (λ step. cond (is_fetched m path) step None) (either-alike m a b same path (pair_to (local_pairs m) path))) (all_paths m))
 
 pub up-alike : (limits : Limits) (m : Sides) (a b : List (Path × Item)) → ((path : Path) → item_at a path ≡ item_at b path) → up_list limits m a ≡ up_list limits m b
 up-alike limits m a b same =
-    ap (λ steps. steps ++ (filter_map (folder_there limits m) (all_paths m) ++ filter_map (send_there limits m a) (all_paths m)))
-    (maps-alike (removal_there m a) (removal_there m b) (λ path. ap (λ item. cond (is_going m m.remote path) (delete_of path item) None) (same path)) (deepest_first (all_paths m)))
-    ∙ ap (λ steps. filter_map (removal_there m b) (deepest_first (all_paths m)) ++ (filter_map (folder_there limits m) (all_paths m) ++ steps))
-    (maps-alike (send_there limits m a) (send_there limits m b) (λ path. ap (λ item. cond (is_sent m path && is_none (why_held limits m path)) (Some (up.Send path (over_of item))) None) (same path)) (all_paths m))
+    let pairs = drive_pairs limits m in
+    ap (λ steps. steps ++ (filter_map (folder_there limits m) (all_paths m) ++ (filter_map (patch_there a) pairs ++ filter_map (send_there limits m a pairs) (all_paths m))))
+    (maps-alike (removal_there m a pairs) (removal_there m b pairs) (λ path. ap (λ item. cond (is_going m m.remote path && not (is_moved_from pairs path)) (delete_of path item) None) (same path)) (deepest_first (all_paths m)))
+    ∙ (ap (λ steps. filter_map (removal_there m b pairs) (deepest_first (all_paths m)) ++ (filter_map (folder_there limits m) (all_paths m) ++ (steps ++ filter_map (send_there limits m a pairs) (all_paths m))))
+    (maps-alike (patch_there a) (patch_there b) (λ pair. ap (λ item. patch_of pair item) (same pair.0)) pairs)
+    ∙ ap (λ steps. filter_map (removal_there m b pairs) (deepest_first (all_paths m)) ++ (filter_map (folder_there limits m) (all_paths m) ++ (filter_map (patch_there b) pairs ++ steps)))
+    (maps-alike (send_there limits m a pairs) (send_there limits m b pairs)
+    (λ path. ap (λ item. cond (is_sent_now limits m path && not (is_moved_to pairs path)) (Some (up.Send path (over_of item))) None) (same path)) (all_paths m)))
 
 -- ---- the sides after the renames
 pub renamed-contents : (renames : List (Path × Path)) (local : List (Path × Node)) → local_tree (renamed_entries renames local) ≡ renamed_tree renames (local_tree local)
@@ -122,3 +134,31 @@ plan-is host t s l local q quota a items plan s_is l_is q_is same is =
       up = three.up ∙ up-alike (limits_of quota (renamed_entries moves local)) m a items same;
       held = three.held;
     }
+
+-- ---- pairs, one after the other
+pub pairs-step : (fits : Path → Path → Bool) (sources : List Path) (pairs new : List (Path × Path)) (from : Option Path) (to : Path) (left rest : List Path) (goal : List (Path × Path))
+    → left ≡ to ∷ rest → from ≡ source_for fits sources pairs to → new ≡ and_pair from to pairs → pairs_from fits sources pairs left ≡ goal → pairs_from fits sources new rest ≡ goal
+pairs-step fits sources pairs new from to left rest goal left_is from_is new_is before =
+    ap (λ (ps : List (Path × Path)). pairs_from fits sources ps rest) (new_is ∙ ap (λ (f : Option Path). and_pair f to pairs) from_is)
+    ∙ (sym (ap (λ (ps : List Path). pairs_from fits sources pairs ps) left_is) ∙ before)
+
+pub found-source : (fits : Path → Path → Bool) (left rest : List Path) (pairs : List (Path × Path)) (to from : Path) → left ≡ from ∷ rest
+    → (fits from to && not (is_moved_from pairs from)) ≡ true → source_for fits left pairs to ≡ Some from
+found-source fits left rest pairs to from left_is serves = ap (λ (ps : List Path). source_for fits ps pairs to) left_is ∙ rw serves refl
+
+pub passed-source : (fits : Path → Path → Bool) (left rest : List Path) (pairs : List (Path × Path)) (to from : Path) → left ≡ from ∷ rest
+    → (fits from to && not (is_moved_from pairs from)) ≡ false → source_for fits left pairs to ≡ source_for fits rest pairs to
+passed-source fits left rest pairs to from left_is fails = ap (λ (ps : List Path). source_for fits ps pairs to) left_is ∙ rw fails refl
+
+pub may-is : (l : Limits) (s : Sides) (from to folder : Path) (coming : List Path) (alike free : Bool) → alike ≡ same (s.base from) (target s to) → alike ≡ true
+    → folder ≡ folder_of from → coming ≡ filter (comes_there l s) (all_paths s)
+    → free ≡ (not (is_going s s.remote folder) && not (list_any (λ other. not (is_path other to) && l.same_caseless other from) coming)) → free ≡ may_move l s from to
+may-is l s from to folder coming alike free alike_is is_true folder_is coming_is free_is =
+    let wants = λ (other : Path). not (is_path other to) && l.same_caseless other from in
+    let going = is_going s s.remote (folder_of from) in
+    let wanted = list_any (λ other. wants other && comes_there l s other) (all_paths s) in
+    free_is
+    ∙ (ap (λ (f : Path). not (is_going s s.remote f) && not (list_any wants coming)) folder_is
+    ∙ (ap (λ (ps : List Path). not going && not (list_any wants ps)) coming_is
+    ∙ (ap (λ (b : Bool). not going && not b) (any-filter wants (comes_there l s) (all_paths s))
+    ∙ ap (λ (b : Bool). (b && not going) && not wanted) (sym (sym alike_is ∙ is_true)))))

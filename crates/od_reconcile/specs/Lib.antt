@@ -5,3 +5,4 @@ pub mod Looks
 pub mod Copying
 pub mod Holding
 pub mod Plans
+pub mod Moving

@@ -1,5 +1,5 @@
 -- What a plan says is to be done.
-use Rattle.std.specs.Prelude.{ℕ, ◌≡◌, ◌&&◌, cond, List, ◌++◌, find, map, is_none, Option, Some, None}
+use Rattle.std.specs.Prelude.{ℕ, ◌≡◌, ◌&&◌, cond, List, ◌++◌, find, map, is_none, Option, Some, None, not}
 use Rattle.std.specs.List.{filter_map}
 use Rattle.std.specs.Option.{option_map}
 use Rattle.gd_item.specs.declared.digest.Digest.{Digest}
@@ -10,8 +10,10 @@ use Rattle.gd_item.specs.declared.item.Kind.TheVariants as kind
 use Rattle.gd_item.specs.declared.item.Tag.{Tag}
 use Rattle.od_keeper.specs.declared.image.BaseRow.{BaseRow}
 use Rattle.od_merge.specs.Merging.{Limits, all_paths, is_going, renamed, renames, why_held}
+use Rattle.od_merge.specs.Pairs.{drive_pairs, is_sent_now, local_pairs}
+use Rattle.od_reconcile.specs.Moving.{is_moved_from, is_moved_to, pair_to}
 use Rattle.od_merge.specs.Sides.{Path, Sides, at, digest_of, is_path, sides_of}
-use Rattle.od_merge.specs.Steps.{deepest_first, is_fetched, is_sent, needs_folder}
+use Rattle.od_merge.specs.Steps.{deepest_first, is_fetched, needs_folder}
 use Rattle.od_merge.specs.declared.content.Content.{Content}
 use Rattle.od_merge.specs.declared.content.Content.TheVariants.{Folder, File}
 use Rattle.od_synclist.specs.Rules.{passes_file}
@@ -39,8 +41,8 @@ removal_of path (Some Folder) = Some (down.RemoveFolder path)
 removal_of path (Some (File None)) = None
 removal_of path (Some (File (Some digest))) = Some (down.RemoveFile path digest)
 
-abbrev pub removal_here : Sides → Path → Option Down
-removal_here m path = cond (is_going m m.local path) (removal_of path (at m.local path)) None
+abbrev pub removal_here : Sides → List (Path × Path) → Path → Option Down
+removal_here m pairs path = cond (is_going m m.local path && not (is_moved_from pairs path)) (removal_of path (at m.local path)) None
 
 abbrev pub folder_here : Sides → Path → Option Down
 folder_here m path = cond (needs_folder m m.local path) (Some (down.MakeFolder path)) None
@@ -55,12 +57,22 @@ abbrev pub fetch_of : Path → Option Item → Option Digest → Option Down
 fetch_of path None over = None
 fetch_of path (Some item) over = fetch_by path item item.kind over
 
-abbrev pub fetch_here : Sides → List (Path × Item) → Path → Option Down
-fetch_here m items path = cond (is_fetched m path) (fetch_of path (item_at items path) (digest_of (at m.local path))) None
+-- a fetch, or a move from where the folder has the bytes
+abbrev pub move_of : Path → Path → Option Digest → Option Down
+move_of from to None = None
+move_of from to (Some digest) = Some (down.Move from to digest)
 
--- removals, the deepest first, then folders, then fetches in order of path
+abbrev pub fetch_or_move : Sides → List (Path × Item) → Path → Option (Path × Path) → Option Down
+fetch_or_move m items path None = fetch_of path (item_at items path) (digest_of (at m.local path))
+fetch_or_move m items path (Some pair) = move_of pair.0 path (digest_of (at m.local pair.0))
+
+abbrev pub fetch_here : Sides → List (Path × Item) → List (Path × Path) → Path → Option Down
+fetch_here m items pairs path = cond (is_fetched m path) (fetch_or_move m items path (pair_to pairs path)) None
+
+-- removals, the deepest first, then folders, then fetches and moves in order of their new paths; a move stands in place of its removal
+-- and its fetch
 abbrev pub down_list : Sides → List (Path × Item) → List Down
-down_list m items = filter_map (removal_here m) (deepest_first (all_paths m)) ++ (filter_map (folder_here m) (all_paths m) ++ filter_map (fetch_here m items) (all_paths m))
+down_list m items = filter_map (removal_here m (local_pairs m)) (deepest_first (all_paths m)) ++ (filter_map (folder_here m) (all_paths m) ++ filter_map (fetch_here m items (local_pairs m)) (all_paths m))
 
 -- ON THE DRIVE
 
@@ -68,8 +80,8 @@ abbrev pub delete_of : Path → Option Item → Option Up
 delete_of path None = None
 delete_of path (Some item) = Some (up.Remove path item.id item.etag)
 
-abbrev pub removal_there : Sides → List (Path × Item) → Path → Option Up
-removal_there m items path = cond (is_going m m.remote path) (delete_of path (item_at items path)) None
+abbrev pub removal_there : Sides → List (Path × Item) → List (Path × Path) → Path → Option Up
+removal_there m items pairs path = cond (is_going m m.remote path && not (is_moved_from pairs path)) (delete_of path (item_at items path)) None
 
 abbrev pub folder_there : Limits → Sides → Path → Option Up
 folder_there limits m path = cond (needs_folder m m.remote path && is_none (why_held limits m path)) (Some (up.MakeFolder path)) None
@@ -85,11 +97,23 @@ abbrev pub over_of : Option Item → Option (ItemId × Tag)
 over_of None = None
 over_of (Some item) = over_by item item.kind
 
-abbrev pub send_there : Limits → Sides → List (Path × Item) → Path → Option Up
-send_there limits m items path = cond (is_sent m path && is_none (why_held limits m path)) (Some (up.Send path (over_of (item_at items path)))) None
+abbrev pub send_there : Limits → Sides → List (Path × Item) → List (Path × Path) → Path → Option Up
+send_there limits m items pairs path = cond (is_sent_now limits m path && not (is_moved_to pairs path)) (Some (up.Send path (over_of (item_at items path)))) None
 
+-- the moves of items, in order of their new paths
+abbrev pub patch_of : Path × Path → Option Item → Option Up
+patch_of pair None = None
+patch_of pair (Some item) = Some (up.Move pair.0 pair.1 item.id item.etag)
+
+abbrev pub patch_there : List (Path × Item) → Path × Path → Option Up
+patch_there items pair = patch_of pair (item_at items pair.0)
+
+-- removals, the deepest first, then folders, then moves, then what is sent; a move stands in place of its removal and what is sent
 abbrev pub up_list : Limits → Sides → List (Path × Item) → List Up
-up_list limits m items = filter_map (removal_there m items) (deepest_first (all_paths m)) ++ (filter_map (folder_there limits m) (all_paths m) ++ filter_map (send_there limits m items) (all_paths m))
+up_list limits m items =
+    filter_map (removal_there m items (drive_pairs limits m)) (deepest_first (all_paths m))
+    ++ (filter_map (folder_there limits m) (all_paths m)
+    ++ (filter_map (patch_there items) (drive_pairs limits m) ++ filter_map (send_there limits m items (drive_pairs limits m)) (all_paths m)))
 
 -- the steps, and what is held
 pub record HasSteps (limits : Limits) (m : Sides) (items : List (Path × Item)) (steps : Steps) : Type 0 where

@@ -23,7 +23,7 @@ pub struct Renaming {
 }
 
 /// The names of the folder of a path, and its last name.
-fn split_last(path: &Path) -> Result<Option<(List<Text>, Text)>, NoMemory>
+pub(crate) fn split_last(path: &Path) -> Result<Option<(List<Text>, Text)>, NoMemory>
     ensures { IfOk result (λ parts. MatchOption parts (path.now ≡ []) (λ p. path.now ≡ p.0 ++ p.1 ∷ [])) }
 {
     let mut names = path.clone()?.into_names();

@@ -75,7 +75,7 @@ fn has_bad_name(path: &Path) -> bool
     false
 }
 
-fn same_caseless_path(a: &Path, b: &Path) -> bool
+pub(crate) fn same_caseless_path(a: &Path, b: &Path) -> bool
     ensures { result ≡ same_caseless_path a.now b.now }
 {
     let mut left = a.names();

@@ -10,6 +10,7 @@ mod holding;
 mod listing;
 mod look;
 mod merge;
+mod pairs;
 mod planning;
 mod side;
 mod steps;
