@@ -1,0 +1,12 @@
+pub mod Lists
+pub mod Phases
+pub mod Cases
+pub mod Needs
+pub mod SideFacts
+pub mod Doing
+pub mod Cores
+pub mod MergeLaws
+pub mod Digests
+pub mod Renames
+pub mod Copying
+pub mod NotKept

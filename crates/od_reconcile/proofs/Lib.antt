@@ -1,0 +1,7 @@
+pub mod Lookups
+pub mod Fronts
+pub mod Indexes
+pub mod Goes
+pub mod Wanting
+pub mod CopyNames
+pub mod Listed

@@ -1,0 +1,6 @@
+use Rattle.std.proofs.Common.{◌≡◌, ◌++◌, drop}
+use Rattle.od_reconcile.proofs.look.add_copies.Given as goal
+
+abbrev pub invariant-loop-path : goal.invariant-loop-path
+invariant-loop-path l =
+    l.found.items ++ drop l.path-index l.paths ≡ l.fn.found.items ++ l.paths
