@@ -1,0 +1,7 @@
+pub mod Agreements
+pub mod Entries
+pub mod Faults
+pub mod Keeping
+pub mod Numbers
+pub mod Stored
+pub mod Writes
