@@ -72,13 +72,19 @@ row-back item row (Some id) (Some parent) None kind whole first second third fou
 row-back item row (Some id) (Some parent) (Some size) None whole first second third fourth made = cc
 row-back item row (Some id) (Some parent) (Some size) (Some kind) whole first second third fourth made =
     let written : EntryRow = record {
-      id = id; parent = parent; name = item.name; size = size; etag = item.etag.0;
-      ctag = option_map (λ (tag : Tag). tag.0) item.ctag; kind = pos kind.0; digest = kind.1;
+      id = id;
+      parent = parent;
+      name = item.name;
+      size = size;
+      etag = item.etag.0;
+      ctag = option_map (λ (tag : Tag). tag.0) item.ctag;
+      kind = pos kind.0;
+      digest = kind.1;
     } in
     let same : written ≡ row = cc in
     let read : item_of written ≡ item_with written (Some item.id.0) (Some item.parent) (Some item.size) (Some (kept_kind item.kind)) =
-        read-parts written item.id.0 item.parent item.size (kept_kind item.kind) (number-back item.id.0 id first) (parent-back item.parent parent second)
-        (number-back item.size size third) (kind-back item.kind kind whole fourth) in
+    read-parts written item.id.0 item.parent item.size (kept_kind item.kind) (number-back item.id.0 id first) (parent-back item.parent parent second)
+    (number-back item.size size third) (kind-back item.kind kind whole fourth) in
     subst (λ (r : EntryRow). item_of r ≡ Some (kept_item item)) same
     (read ∙ ap (λ (tag : Option Tag). Some (record item { parent_path = None; ctag = tag; kind = kept_kind item.kind })) (tag-back item.ctag))
 

@@ -10,8 +10,6 @@ mod number;
 mod setup;
 mod statements;
 mod tables;
-#[cfg(test)]
-mod tests;
 mod write;
 
 pub use agreement::AgreementRow;

@@ -15,7 +15,7 @@ pub type Database = Connection<FileStore<File>>;
 type Change<'conn> = Transaction<'conn, FileStore<File>>;
 
 /// The statements that read.
-#[derive(Debug, Drop)]
+#[derive(Drop)]
 pub struct Reading {
     setting: Statement,
     entries: Statement,
@@ -23,7 +23,7 @@ pub struct Reading {
 }
 
 /// The statements that write.
-#[derive(Debug, Drop)]
+#[derive(Drop)]
 pub struct Writing {
     set: Statement,
     gone: Statement,

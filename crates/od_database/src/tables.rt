@@ -3,7 +3,7 @@ ghost use Rattle.std.specs.Prelude.{◌≡◌, None, Some, IfOk, IsErrOf};
 ghost use Rattle.od_keeper.specs.Images.{by_id, by_path};
 ghost use Rattle.od_database.specs.Agreements.{base_of};
 ghost use Rattle.od_database.specs.Entries.{item_of};
-ghost use Rattle.od_database.specs.Stored.{ascends, is_current, rules_of, IsImageOf};
+ghost use Rattle.od_database.specs.Stored.{ascends, is_current, is_less, rules_of, IsImageOf};
 ghost use Rattle.od_database.specs.Writes.{collected};
 
 use crate::agreement::AgreementRow;
@@ -14,6 +14,7 @@ use gd_item::{Digest, Item};
 use gd_names::{List, Text};
 use od_keeper::{BaseRow, Image};
 use std::alloc::Global;
+use std::cmp::Ordering;
 
 /// All rows, as they were read.
 #[derive(Debug, PartialEq, Eq, Drop)]
@@ -80,13 +81,22 @@ fn items_ascend(items: &[Item]) -> bool
     true
 }
 
+fn is_before(first: &BaseRow, second: &BaseRow) -> bool
+    ensures { result ≡ is_less (by_path first.now second.now) }
+{
+    match first.path.cmp(&second.path) {
+        Ordering::Less => true,
+        Ordering::Equal | Ordering::Greater => false,
+    }
+}
+
 fn rows_ascend(rows: &[BaseRow]) -> bool
     ensures { result ≡ ascends by_path rows.now }
 {
     let mut rows = rows;
     while let [first, rest @ ..] = rows {
         if let [second, ..] = rest
-            && first.path >= second.path
+            && !is_before(first, second)
         {
             return false;
         }

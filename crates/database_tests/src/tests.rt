@@ -1,7 +1,7 @@
 //! What the statements keep in a real file, which no clause says.
-use super::*;
 use gd_item::{Digest, Item, ItemId, Kind, Tag};
 use gd_names::{List, NoMemory, Path, PathFault, Text};
+use od_database::SqlKeeper;
 use od_keeper::{Agreed, BaseRow, Change, Image, Keeper, KeeperFault, applied, empty_image};
 use sqlite::Connection;
 use std::alloc::Global;
@@ -9,7 +9,8 @@ use std::fs;
 use std::test::Fail;
 
 /// The tables of version 1, with the root, a folder, a file and a token.
-const FIRST_VERSION: &str = "CREATE TABLE meta (name TEXT PRIMARY KEY, value TEXT NOT NULL) STRICT; CREATE TABLE item (id INTEGER PRIMARY KEY, parent INTEGER, name TEXT NOT NULL, size INTEGER NOT NULL, etag TEXT NOT NULL, ctag TEXT, folder INTEGER NOT NULL, digest BLOB) STRICT; CREATE TABLE base (path TEXT PRIMARY KEY, kind INTEGER NOT NULL, digest BLOB, flight BLOB) STRICT; INSERT INTO meta VALUES ('version', '1'), ('token', 't 1.3.3'); INSERT INTO item VALUES (1, NULL, 'root', 0, 'e0', NULL, 1, NULL), (2, 1, 'd', 0, 'e1', NULL, 1, NULL), (3, 2, 'f', 5, 'e2', 'c2', 0, x'0707070707070707070707070707070707070707070707070707070707070707')";
+const FIRST_VERSION: &str =
+    "CREATE TABLE meta (name TEXT PRIMARY KEY, value TEXT NOT NULL) STRICT; CREATE TABLE item (id INTEGER PRIMARY KEY, parent INTEGER, name TEXT NOT NULL, size INTEGER NOT NULL, etag TEXT NOT NULL, ctag TEXT, folder INTEGER NOT NULL, digest BLOB) STRICT; CREATE TABLE base (path TEXT PRIMARY KEY, kind INTEGER NOT NULL, digest BLOB, flight BLOB) STRICT; INSERT INTO meta VALUES ('version', '1'), ('token', 't 1.3.3'); INSERT INTO item VALUES (1, NULL, 'root', 0, 'e0', NULL, 1, NULL), (2, 1, 'd', 0, 'e1', NULL, 1, NULL), (3, 2, 'f', 5, 'e2', 'c2', 0, x'0707070707070707070707070707070707070707070707070707070707070707')";
 
 /// The path of a file in a folder of this name, which is made anew.
 fn fresh(rt: &HostRuntime, folder: &str) -> Result<Text, Fail> {
@@ -87,7 +88,10 @@ fn item(
 
 fn tagged(alloc: Global, item: Item) -> Result<Item, NoMemory> {
     let ctag = Text::from_str(alloc, "c4")?;
-    Ok(Item { ctag: Some(Tag(ctag)), ..item })
+    Ok(Item {
+        ctag: Some(Tag(ctag)),
+        ..item
+    })
 }
 
 fn base(
@@ -107,7 +111,13 @@ const NINES: Digest = Digest([9; 32]);
 fn items(alloc: Global) -> Result<List<Item>, Fail> {
     let mut items = List::new(alloc);
     items.push(item(alloc, 1, None, "root", Kind::Folder { child_count: 0 })?)?;
-    let file = item(alloc, 3, Some(ItemId(1)), "déjà ' \" ?", Kind::File { digest: SEVENS })?;
+    let file = item(
+        alloc,
+        3,
+        Some(ItemId(1)),
+        "déjà ' \" ?",
+        Kind::File { digest: SEVENS },
+    )?;
     items.push(tagged(alloc, file)?)?;
     items.push(item(alloc, 9223372036854775807, Some(ItemId(3)), "", Kind::Bare)?)?;
     Ok(items)
@@ -152,7 +162,14 @@ fn an_image_is_read_back_in_each_part(rt: HostRuntime) -> Result<(), Fail> {
     assert!(rt; loaded(&rt, &path)? == empty_image(rt.alloc()));
     commit(&rt, &path, &whole_change(rt.alloc())?)?;
     assert!(rt; loaded(&rt, &path)? == whole_image(rt.alloc())?);
-    assert_eq!(rt; number(&rt, &path, "SELECT count(*) FROM base WHERE flight IS NOT NULL")?, 2);
+    assert_eq!(rt;
+        number(
+            &rt,
+            &path,
+            "SELECT count(*) FROM base WHERE flight IS NOT NULL"
+        )?,
+        2
+    );
     Ok(())
 }
 
@@ -201,8 +218,18 @@ fn a_first_version_is_taken_over(rt: HostRuntime) -> Result<(), Fail> {
     assert!(rt; image.token == first_version_image(rt.alloc())?.token);
     assert_eq!(rt; image.items.len(), 3);
     assert_eq!(rt; number(&rt, &path, "SELECT count(*) FROM item")?, 0);
-    assert_eq!(rt; number(&rt, &path, "SELECT count(*) FROM meta WHERE name = 'version' AND value = '2'")?, 1);
-    assert_eq!(rt; number(&rt, &path, "SELECT sum(kind * id + size) FROM entry")?, 8);
+    assert_eq!(rt;
+        number(
+            &rt,
+            &path,
+            "SELECT count(*) FROM meta WHERE name = 'version' AND value = '2'"
+        )?,
+        1
+    );
+    assert_eq!(rt;
+        number(&rt, &path, "SELECT sum(kind * id + size) FROM entry")?,
+        8
+    );
     Ok(())
 }
 
@@ -250,13 +277,17 @@ fn is_refused(rt: &HostRuntime, path: &Text, change: &Change) -> Result<bool, Fa
 fn refused_at_the_end(alloc: Global) -> Result<Change, Fail> {
     let mut change = whole_change(alloc)?;
     change.reset = true;
-    change.rows.push(base(alloc, "/refused", Agreed::Folder, None)?)?;
+    change
+        .rows
+        .push(base(alloc, "/refused", Agreed::Folder, None)?)?;
     Ok(change)
 }
 
 fn past_an_integer(alloc: Global) -> Result<Change, Fail> {
     let mut change = second_change(alloc)?;
-    change.put.push(item(alloc, 9223372036854775808, None, "x", Kind::Bare)?)?;
+    change
+        .put
+        .push(item(alloc, 9223372036854775808, None, "x", Kind::Bare)?)?;
     Ok(change)
 }
 
@@ -278,7 +309,11 @@ fn a_change_is_kept_whole_or_not_at_all(rt: HostRuntime) -> Result<(), Fail> {
 fn another_version_takes_no_change(rt: HostRuntime) -> Result<(), Fail> {
     let path = fresh(&rt, "od_database_other")?;
     commit(&rt, &path, &whole_change(rt.alloc())?)?;
-    run(&rt, &path, "UPDATE meta SET value = '9' WHERE name = 'version'")?;
+    run(
+        &rt,
+        &path,
+        "UPDATE meta SET value = '9' WHERE name = 'version'",
+    )?;
     let mut keeper = opened(&rt, &path)?;
     assert!(rt; keeper.commit(&second_change(rt.alloc())?) == Err(KeeperFault::Failed));
     assert_eq!(rt; keeper.faults(), 1);
@@ -300,7 +335,13 @@ fn a_file_that_is_no_database_is_not_opened(rt: HostRuntime) -> Result<(), Fail>
 fn many_items(alloc: Global, count: u64) -> Result<List<Item>, Fail> {
     let mut items = List::new(alloc);
     for id in 0..count {
-        items.push(item(alloc, id, Some(ItemId(1)), "a name", Kind::File { digest: SEVENS })?)?;
+        items.push(item(
+            alloc,
+            id,
+            Some(ItemId(1)),
+            "a name",
+            Kind::File { digest: SEVENS },
+        )?)?;
     }
     Ok(items)
 }
