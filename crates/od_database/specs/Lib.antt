@@ -1,4 +1,5 @@
 pub mod Agreements
+pub mod Columns
 pub mod Entries
 pub mod Faults
 pub mod Keeping

@@ -2,6 +2,7 @@
 #![tactic(auto)]
 
 mod agreement;
+mod columns;
 mod entry;
 mod fault;
 mod keeper;
@@ -16,6 +17,6 @@ pub use agreement::AgreementRow;
 pub use entry::EntryRow;
 pub use fault::DatabaseFault;
 pub use keeper::SqlKeeper;
-pub use laws::{agreements_are_read_back, items_are_read_back};
+pub use laws::{agreements_are_read_back, columns_are_read_back, items_are_read_back};
 pub use tables::Tables;
 pub use write::{Write, writes_of};

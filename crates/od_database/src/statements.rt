@@ -1,10 +1,11 @@
 //! The statements, prepared once, and what goes into them and comes out of them.
 use crate::agreement::AgreementRow;
+use crate::columns::{agreement, agreement_values, entry, entry_values, text};
 use crate::entry::EntryRow;
 use crate::fault::DatabaseFault;
 use crate::tables::Tables;
 use crate::write::Write;
-use gd_names::{Bytes, List, Text};
+use gd_names::{List, Text};
 use sqlite::types::ValueRef;
 use sqlite::{Connection, File, FileStore, Row, Statement, Transaction, params};
 use std::alloc::Global;
@@ -121,85 +122,6 @@ impl Reading {
     }
 }
 
-fn text(row: &Row, column: usize) -> Result<Text, DatabaseFault> {
-    let text: String = row.get(column)?;
-    Ok(Text::from_string(text))
-}
-
-fn optional_text(row: &Row, column: usize) -> Result<Option<Text>, DatabaseFault> {
-    let text: Option<String> = row.get(column)?;
-    match text {
-        Some(text) => Ok(Some(Text::from_string(text))),
-        None => Ok(None),
-    }
-}
-
-fn optional_blob(row: &Row, column: usize) -> Result<Option<Bytes>, DatabaseFault> {
-    let blob: Option<Vec<u8>> = row.get(column)?;
-    match blob {
-        Some(blob) => Ok(Some(Bytes::from_vec(blob))),
-        None => Ok(None),
-    }
-}
-
-fn number(row: &Row, column: usize) -> Result<i64, DatabaseFault> {
-    let number = row.get(column)?;
-    Ok(number)
-}
-
-fn optional_number(row: &Row, column: usize) -> Result<Option<i64>, DatabaseFault> {
-    let number = row.get(column)?;
-    Ok(number)
-}
-
-fn entry(row: &Row) -> Result<EntryRow, DatabaseFault> {
-    let id = number(row, 0)?;
-    let parent = optional_number(row, 1)?;
-    let name = text(row, 2)?;
-    let size = number(row, 3)?;
-    let etag = text(row, 4)?;
-    let ctag = optional_text(row, 5)?;
-    let kind = number(row, 6)?;
-    let digest = optional_blob(row, 7)?;
-    Ok(EntryRow {
-        id,
-        parent,
-        name,
-        size,
-        etag,
-        ctag,
-        kind,
-        digest,
-    })
-}
-
-fn agreement(row: &Row) -> Result<AgreementRow, DatabaseFault> {
-    let path = text(row, 0)?;
-    let kind = number(row, 1)?;
-    let digest = optional_blob(row, 2)?;
-    let flight = optional_blob(row, 3)?;
-    Ok(AgreementRow {
-        path,
-        kind,
-        digest,
-        flight,
-    })
-}
-
-fn lent_text(text: &Option<Text>) -> Option<&str> {
-    match text {
-        Some(text) => Some(text.as_str()),
-        None => None,
-    }
-}
-
-fn lent_blob(blob: &Option<Bytes>) -> Option<&[u8]> {
-    match blob {
-        Some(blob) => Some(blob.as_slice()),
-        None => None,
-    }
-}
-
 fn ran(
     change: &mut Change<'_>,
     statement: &Statement,
@@ -245,45 +167,15 @@ impl Writing {
         ran(change, &self.set, params![name, value.as_str()])
     }
 
-    fn put(&self, change: &mut Change<'_>, row: &EntryRow) -> Result<(), DatabaseFault> {
-        ran(
-            change,
-            &self.put,
-            params![
-                row.id,
-                row.parent,
-                row.name.as_str(),
-                row.size,
-                row.etag.as_str(),
-                lent_text(&row.ctag),
-                row.kind,
-                lent_blob(&row.digest),
-            ],
-        )
-    }
-
-    fn row(&self, change: &mut Change<'_>, row: &AgreementRow) -> Result<(), DatabaseFault> {
-        ran(
-            change,
-            &self.row,
-            params![
-                row.path.as_str(),
-                row.kind,
-                lent_blob(&row.digest),
-                lent_blob(&row.flight),
-            ],
-        )
-    }
-
     fn write(&self, change: &mut Change<'_>, write: &Write) -> Result<(), DatabaseFault> {
         match write {
             Write::Reset => reset(change),
             Write::Rules(text) => self.set(change, "rules", text),
             Write::Token(text) => self.set(change, "token", text),
             Write::Gone(id) => ran(change, &self.gone, params![*id]),
-            Write::Put(row) => self.put(change, row),
+            Write::Put(row) => ran(change, &self.put, &entry_values(row)),
             Write::Dropped(path) => ran(change, &self.dropped, params![path.as_str()]),
-            Write::Row(row) => self.row(change, row),
+            Write::Row(row) => ran(change, &self.row, &agreement_values(row)),
         }
     }
 
