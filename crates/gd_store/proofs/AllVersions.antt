@@ -1,15 +1,14 @@
 -- The versions that a store gives of a living file are all that its drive accepted.
-use Rattle.std.proofs.Common.{◌≡◌, ℕ, Bool, true, false, ◌||◌, not, cond, nat_eq, List, [], ◌∷◌, ◌++◌, map, filter, reverse, is_some, Option, Some, None, refl, sym, ap, ◌∙◌, subst}
+use Rattle.std.proofs.Common.{◌≡◌, ℕ, Bool, true, false, ◌||◌, nat_eq, List, map, reverse, is_some, Option, Some, None, refl, sym, ap, ◌∙◌}
 use Rattle.gd_names.proofs.Small.{clear, un-not}
 use Rattle.gd_item.specs.Inventory.{Inventory, inventory, live_at}
-use Rattle.gd_item.specs.Nodes.{is_folder}
 use Rattle.gd_item.specs.Refusals.{is_there, file_refusal}
 use Rattle.gd_item.specs.Steps.{state_of, held_by, accepted_by}
 use Rattle.gd_item.specs.Trees.{nodes_of}
 use Rattle.gd_item.specs.Versions.{info_of, versions_of}
 use Rattle.gd_item.specs.declared.live.LiveItem.{LiveItem}
 use Rattle.gd_item.specs.declared.step.Step.{Step}
-use Rattle.gd_laws.specs.Given.{given_versions, is_version_of}
+use Rattle.gd_laws.specs.Given.{given_versions}
 use Rattle.gd_laws.proofs.Versions.{given-log}
 use Rattle.gd_store.specs.Stands.{pruned}
 use Rattle.gd_store.proofs.There.{there-is}

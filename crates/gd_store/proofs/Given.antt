@@ -1,5 +1,5 @@
 -- Calls that take no memory.
-use Rattle.std.proofs.Common.{◌≡◌, Option, Some, None, Result, Ok, Err, refl, sym, ap, ◌∙◌, subst, inr}
+use Rattle.std.proofs.Common.{◌≡◌, Option, Some, None, Result, Ok, Err, refl, sym, ap, subst, inr}
 use Rattle.gd_item.specs.declared.fault.StoreFault.{StoreFault}
 use Rattle.gd_store.specs.Stands.{Answers, given_unless}
 

@@ -1,11 +1,8 @@
 -- Undoing a step for whose record memory is wanting.
-use Rattle.std.proofs.Common.{◌≡◌, ℕ, ◌+◌, suc, length, Bool, true, false, cond, nat_eq, List, [], ◌∷◌, ◌++◌, Option, Some, None, Result, Ok, Err, refl, sym, ap, ◌∙◌, subst}
+use Rattle.std.proofs.Common.{◌≡◌, ℕ, ◌+◌, suc, length, true, false, cond, nat_eq, List, [], ◌∷◌, Option, Some, None, refl, sym, ap, ◌∙◌}
 use Rattle.std.specs.Option.{option_to_list}
-use Rattle.gd_item.specs.Inventory.{Inventory, Effect, Moved, after, inventory, changed, live_at, with_bytes, with_place, version_in, version_of}
+use Rattle.gd_item.specs.Inventory.{Inventory, Moved, after, changed, live_at, with_bytes, with_place, version_in, version_of}
 use Rattle.gd_item.specs.Moves.{parent_of, name_of}
-use Rattle.gd_item.specs.Refusals.{is_made}
-use Rattle.gd_item.specs.declared.fault.StoreFault.{StoreFault}
-use Rattle.gd_item.specs.declared.item.Item.{Item}
 use Rattle.gd_item.specs.declared.live.LiveItem.{LiveItem}
 use Rattle.gd_item.specs.declared.live.Tombstone.{Tombstone}
 use Rattle.gd_item.specs.declared.live.Version.{Version}

@@ -5,7 +5,7 @@ use Rattle.gd_names.specs.declared.conflict.Settle.{Settle}
 use Rattle.gd_names.specs.declared.conflict.Settle.TheVariants.{Free, Over, Refuse}
 use Rattle.gd_names.proofs.Settled.{settled-free}
 use Rattle.gd_names.proofs.Small.{clear, un-not}
-use Rattle.gd_item.specs.Inventory.{Inventory, Effect, after, after_all, PutOver}
+use Rattle.gd_item.specs.Inventory.{Inventory, after, after_all, PutOver}
 use Rattle.gd_item.specs.Moves.{new_parent, new_name, patch_refusal, patch_effect, remove_refusal, remove_effects}
 use Rattle.gd_item.specs.Refusals.{settled_in, siblings_in, folder_effect, file_effect, make_folder_refusal, make_folder_effect, put_over_refusal, put_under_refusal}
 use Rattle.gd_item.specs.Sound.{IsItemMap}

@@ -1,5 +1,5 @@
 -- A store that stands for its effects stands for more of them, whatever removals it forgot.
-use Rattle.std.proofs.Common.{◌≡◌, ℕ, Bool, ◌<◌, ◌≤◌, max, min, List, [], ◌∷◌, ◌++◌, Option, Some, None, ◌⊎◌, inl, inr, Result, Ok, Err, refl, sym, ap, ◌∙◌, subst, arith}
+use Rattle.std.proofs.Common.{◌≡◌, ℕ, Bool, ◌<◌, ◌≤◌, max, min, List, ◌++◌, Option, Some, None, ◌⊎◌, Result, Ok, Err, sym, ap, ◌∙◌, subst, arith}
 use Rattle.std.proofs.lemmas.List.Elements.{All-weaker}
 use Rattle.gd_item.specs.Inventory.{Inventory, Effect, after_all, inventory}
 use Rattle.gd_item.specs.Sound.{IsItemMap, IsWithin}

@@ -9,7 +9,7 @@ use Rattle.gd_names.specs.declared.conflict.Settle.TheVariants.{Over}
 use Rattle.gd_names.specs.declared.conflict.Sibling.{Sibling}
 use Rattle.gd_names.proofs.Settled.{over-sibling}
 use Rattle.gd_names.proofs.Small.{clear, un-not}
-use Rattle.gd_item.specs.Inventory.{Inventory, Moved, after, changed, live_at, with_bytes, with_place}
+use Rattle.gd_item.specs.Inventory.{Inventory, after, changed, live_at, with_bytes, with_place}
 use Rattle.gd_item.specs.Moves.{patch_refusal, patch_effect, new_parent, new_name}
 use Rattle.gd_item.specs.Nodes.{live_node}
 use Rattle.gd_item.specs.Records.{root_record, record_with, record_at}

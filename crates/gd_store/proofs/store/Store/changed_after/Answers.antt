@@ -1,6 +1,6 @@
-use Rattle.std.proofs.Common.{◌≡◌, Bool, true, false, Some, [], ◌∷◌, ◌++◌, refl, sym, ap, ◌∙◌, subst}
+use Rattle.std.proofs.Common.{ap, ◌∙◌}
 use Rattle.gd_item.specs.Inventory.{Inventory, inventory}
-use Rattle.gd_store.specs.Stands.{StoreValue, Stands}
+use Rattle.gd_store.specs.Stands.{StoreValue}
 use Rattle.gd_item.specs.Records.{feed, first_of, last_of}
 use Rattle.gd_store.proofs.Pruning.{feed-pruned}
 use Rattle.gd_store.proofs.store.Store.changed_after.Goals as goal

@@ -1,4 +1,4 @@
-use Rattle.std.proofs.Common.{◌≡◌, Bool, true, false, Some, [], ◌∷◌, ◌++◌, refl, sym, ap, ◌∙◌, subst}
+use Rattle.std.proofs.Common.{refl, sym, ap, ◌∙◌, subst}
 use Rattle.gd_store.specs.Stands.{StoreValue, Stands}
 use Rattle.std.specs.Option.{option_copied}
 use Rattle.gd_item.specs.Children.{first_children, has_more_children}

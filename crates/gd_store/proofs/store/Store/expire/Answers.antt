@@ -1,4 +1,4 @@
-use Rattle.std.proofs.Common.{◌≡◌, max, min, Bool, true, false, Some, [], ◌∷◌, ◌++◌, refl, sym, ap, ◌∙◌, subst}
+use Rattle.std.proofs.Common.{max, min, sym, ap, ◌∙◌, subst}
 use Rattle.gd_store.specs.Stands.{StoreValue, Stands}
 use Rattle.gd_store.proofs.Steps.{expired}
 use Rattle.gd_store.proofs.store.Store.expire.Goals as goal

@@ -1,4 +1,4 @@
-use Rattle.std.proofs.Common.{◌≡◌, Bool, true, false, Some, [], ◌∷◌, ◌++◌, refl, sym, ap, ◌∙◌, subst}
+use Rattle.std.proofs.Common.{[], ◌∷◌, refl, sym, subst}
 use Rattle.gd_item.specs.Refusals.{make_folder_refusal, make_folder_effect}
 use Rattle.gd_store.specs.Stands.{StoreValue, Stands}
 use Rattle.gd_store.proofs.Sounds.{make-sound}

@@ -1,4 +1,4 @@
-use Rattle.std.proofs.Common.{◌≡◌, Bool, true, false, Some, [], ◌∷◌, ◌++◌, refl, sym, ap, ◌∙◌, subst}
+use Rattle.std.proofs.Common.{[], refl, sym, subst}
 use Rattle.gd_item.specs.Inventory.{inventory}
 use Rattle.gd_item.specs.Refusals.{put_refusal, put_under_refusal}
 use Rattle.gd_item.specs.Refused.{but_quota}

@@ -1,6 +1,6 @@
-use Rattle.std.proofs.Common.{◌≡◌, Bool, true, false, Some, [], ◌∷◌, ◌++◌, refl, sym, ap, ◌∙◌, subst}
-use Rattle.gd_item.specs.Inventory.{Inventory, inventory}
-use Rattle.gd_store.specs.Stands.{StoreValue, Stands}
+use Rattle.std.proofs.Common.{ap, ◌∙◌}
+use Rattle.gd_item.specs.Inventory.{Inventory}
+use Rattle.gd_store.specs.Stands.{StoreValue}
 use Rattle.gd_item.proofs.Effects.{number-inventory}
 use Rattle.gd_store.proofs.store.Store.number.Goals as goal
 

@@ -1,10 +1,10 @@
-use Rattle.std.proofs.Common.{◌≡◌, Bool, true, false, Some, [], ◌∷◌, ◌++◌, refl, sym, ap, ◌∙◌, subst}
+use Rattle.std.proofs.Common.{[], ◌∷◌, refl, sym, subst}
 use Rattle.std.specs.Option.{option_copied}
 use Rattle.gd_item.specs.Moves.{patch_refusal, patch_effect}
 use Rattle.gd_item.specs.Refused.{id_number}
 use Rattle.gd_store.specs.Stands.{StoreValue, Stands}
 use Rattle.gd_store.proofs.Sounds.{moved-sound}
-use Rattle.gd_store.proofs.Steps.{stepped, begun, recorded-after}
+use Rattle.gd_store.proofs.Steps.{stepped, begun}
 use Rattle.gd_store.proofs.store.Store.patch.Goals as goal
 
 pub returns-clause-answer : goal.returns-clause-answer

@@ -1,4 +1,4 @@
-use Rattle.std.proofs.Common.{◌≡◌, Bool, true, false, Some, [], ◌∷◌, ◌++◌, refl, sym, ap, ◌∙◌, subst}
+use Rattle.std.proofs.Common.{[], ◌∷◌, refl, sym, subst}
 use Rattle.std.specs.Option.{option_copied}
 use Rattle.gd_item.specs.Moves.{patch_refusal, patch_effect}
 use Rattle.gd_item.specs.Refused.{id_number}

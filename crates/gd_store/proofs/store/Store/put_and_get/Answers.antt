@@ -1,11 +1,11 @@
-use Rattle.std.proofs.Common.{◌≡◌, Bool, true, false, Some, [], ◌∷◌, ◌++◌, refl, sym, ap, ◌∙◌, subst}
+use Rattle.std.proofs.Common.{◌≡◌, Bool, false, Some, [], ◌∷◌, ◌++◌, refl, sym, ap, ◌∙◌, subst}
 use Rattle.gd_item.specs.Inventory.{PutOver, inventory}
 use Rattle.gd_item.specs.Refusals.{is_made, settled_in, file_effect, put_over_refusal, put_under_refusal, put_refusal, put_effect}
 use Rattle.gd_item.specs.declared.item.Item.{Item}
 use Rattle.gd_item.specs.declared.live.Place.{Place}
-use Rattle.gd_store.specs.Stands.{StoreValue, Stands, Answers, put_result, record_after}
+use Rattle.gd_store.specs.Stands.{StoreValue, Stands, Answers, record_after}
 use Rattle.gd_store.proofs.Sounds.{put-over-sound, put-under-sound}
-use Rattle.gd_store.proofs.Steps.{stepped, begun, recorded-after, handed-back, holding}
+use Rattle.gd_store.proofs.Steps.{stepped, begun, recorded-after, holding}
 use Rattle.gd_store.proofs.store.Store.put_and_get.Goals as goal
 
 pub returns-in-Over-clause-answer : goal.returns-in-Over-clause-answer

@@ -1,4 +1,4 @@
-use Rattle.std.proofs.Common.{◌≡◌, Bool, true, false, Some, [], ◌∷◌, ◌++◌, refl, sym, ap, ◌∙◌, subst}
+use Rattle.std.proofs.Common.{refl, sym, ◌∙◌, subst}
 use Rattle.gd_item.specs.Refusals.{file_refusal}
 use Rattle.gd_item.specs.Steps.{state_of}
 use Rattle.gd_store.specs.Stands.{StoreValue, Stands}
