@@ -5,3 +5,4 @@ pub mod Goes
 pub mod Wanting
 pub mod CopyNames
 pub mod Listed
+pub mod Beside

@@ -7,6 +7,7 @@ mod copies;
 mod entries;
 mod folders;
 mod holding;
+mod laws;
 mod listing;
 mod look;
 mod merge;
@@ -16,6 +17,7 @@ mod side;
 mod steps;
 mod types;
 
+pub use laws::a_plan_makes_the_target;
 pub use od_merge::Why;
 pub use planning::plan;
 pub use types::{Down, Held, Node, Plan, Rename, Up};
