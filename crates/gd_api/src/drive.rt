@@ -99,7 +99,7 @@ impl Drive {
         })
     }
 
-    /// Answers a request. Memory is taken before anything changes.
+    /// Answers a request. Where memory is wanting the drive is left as it was.
     pub fn handle(&mut self, request: &Request) -> Reply
         ensures answer { (log : List Step) → Stands self.old log → Handles self.old self.new log request.now result }
         ensures served { (log : List Step) → Stands self.old log → takes_no_memory request.now ≡ true → result ≡ answer (state_of log) self.old.size request.now }

@@ -29,6 +29,11 @@ const PAGE: &str =
 const NEXT: &str =
     "{\"@odata.nextLink\":\"http://127.0.0.1:8080/v1.0/me/drive/items/01GD0000000000000001/children?$skiptoken=a%20b\",\"value\":[{\"eTag\":\"e2\",\"file\":{},\"id\":\"01GD0000000000000002\",\"name\":\"a b\",\"parentReference\":{\"driveId\":\"gd1\",\"id\":\"01GD0000000000000001\"},\"size\":1}]}";
 
+const EMPTY: &str =
+    "{\"@odata.nextLink\":\"http://127.0.0.1:8080/v1.0/me/drive/root/delta?token=t1.2.3\",\"value\":[]}";
+
+const NONE: &str = "{\"value\":[]}";
+
 const SESSION: &str =
     "{\"expirationDateTime\":\"2099-01-01T00:00:00Z\",\"nextExpectedRanges\":[\"5-\"],\"uploadUrl\":\"http://127.0.0.1:8080/v1.0/upload/7\"}";
 
@@ -57,7 +62,11 @@ enum Body {
     Root,
     Gone,
     Page,
+    /// A page of no records with a link to the next.
+    Empty,
     Next,
+    /// A list of no items.
+    None,
     Session,
     Status,
     Error,
@@ -73,7 +82,9 @@ fn text_of(body: Body) -> &'static str {
         Body::Root => ROOT,
         Body::Gone => GONE,
         Body::Page => PAGE,
+        Body::Empty => EMPTY,
         Body::Next => NEXT,
+        Body::None => NONE,
         Body::Session => SESSION,
         Body::Status => STATUS,
         Body::Error => ERROR,
@@ -94,8 +105,8 @@ fn fault<T: Drop>(read: Result<T, JsonFault>) -> Option<JsonFault> {
 fn refused(alloc: Global, wire: &Wire, body: Body, bytes: &[u8]) -> Option<JsonFault> {
     match body {
         Body::File | Body::Bare | Body::Root | Body::Gone => fault(read_item(alloc, bytes)),
-        Body::Page => fault(read_page(alloc, bytes, wire)),
-        Body::Next => fault(read_children(alloc, bytes, wire)),
+        Body::Page | Body::Empty => fault(read_page(alloc, bytes, wire)),
+        Body::Next | Body::None => fault(read_children(alloc, bytes, wire)),
         Body::Session | Body::Status => fault(read_session(alloc, bytes, wire)),
         Body::Error => fault(read_error(alloc, bytes)),
         Body::Folder => fault(read_folder(alloc, bytes)),
@@ -110,8 +121,12 @@ fn written(alloc: Global, wire: &Wire, body: Body, bytes: &[u8]) -> Result<Strin
         Body::File | Body::Bare | Body::Root | Body::Gone => {
             write_item(alloc, &read_item(alloc, bytes)?)?
         }
-        Body::Page => write_page(alloc, &read_page(alloc, bytes, wire)?, wire)?,
-        Body::Next => write_children(alloc, &read_children(alloc, bytes, wire)?, wire)?,
+        Body::Page | Body::Empty => write_page(alloc, &read_page(alloc, bytes, wire)?, wire)?,
+        Body::Next | Body::None => write_children(
+            alloc,
+            &read_children(alloc, bytes, wire)?,
+            wire,
+        )?,
         Body::Session | Body::Status => {
             write_session(alloc, &read_session(alloc, bytes, wire)?, wire)?
         }
@@ -191,7 +206,9 @@ fn bodies_are_written_as_they_were_read(rt: HostRuntime) -> Result<(), Fail> {
         Body::Root,
         Body::Gone,
         Body::Page,
+        Body::Empty,
         Body::Next,
+        Body::None,
         Body::Session,
         Body::Status,
         Body::Error,

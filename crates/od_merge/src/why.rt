@@ -1,4 +1,4 @@
-/// Why an entry is held, in the order in which the causes are asked for.
+/// Why an entry is held. A conflict without a copy name is asked for first, and then the others in this order.
 #[derive(Clone, Copy, Debug, PartialEq, Eq)]
 pub enum Why {
     /// A name of its path is refused.

@@ -70,7 +70,8 @@ pub struct Rename {
     pub to: Path,
 }
 
-/// What is to be done, in the order in which it is done: the renames first, then each list from its beginning.
+/// What is to be done: the renames, then the folder's list and then the drive's, each from its beginning; but the source of
+/// a move in the folder is taken among the removals.
 #[derive(Debug, Drop)]
 pub struct Plan {
     pub renames: List<Rename>,

@@ -8,7 +8,7 @@ use std::alloc::{AllocError, Global};
 /// What each exit code says, for the long help.
 const EXIT_CODES: &str = "Exit codes:
    0  both sides are the same; of a replay: the script was run
-   1  some entries are held back, each on a line of its own
+   1  some entries are held back, each on a line of its own, or both sides are not the same yet
    2  the words are refused
    3  a line of the rules, or of the script, is bad
    4  the rules have changed: run once with --resync; of a replay: the script is too long
@@ -47,7 +47,9 @@ fn resync<'a>(alloc: Global) -> Arg<'a>
     Arg::new(alloc, "resync")
         .long("resync")
         .action(ArgAction::SetTrue)
-        .help("Start from the drive afresh, as is needed once after the rules have changed")
+        .help(
+            "Start from the drive afresh, once after the rules have changed, as in `odsync sync .. --resync`",
+        )
 }
 
 fn workers<'a>(alloc: Global) -> Arg<'a>

@@ -4,7 +4,7 @@ use super::*;
 type Twice = (Body, &'static str, &'static str, Member);
 
 /// Every member of every body, but for those that are ignored.
-const EACH: [Twice; 32] = [
+const EACH: [Twice; 41] = [
     (
         Body::File,
         "\"id\":\"01GD0000000000000002\"",
@@ -157,6 +157,45 @@ const EACH: [Twice; 32] = [
         "\"item\":[]",
         Member::Item,
     ),
+    (
+        Body::Gone,
+        "\"parentReference\":{\"driveId\":\"gd1\",\"id\":\"01GD0000000000000001\"}",
+        "\"parentReference\":7",
+        Member::ParentReference,
+    ),
+    (Body::Empty, "\"value\":[]", "\"value\":{}", Member::Value),
+    (Body::Empty, "\"value\":[]", "\"value\":[7]", Member::Value),
+    (
+        Body::Empty,
+        "\"@odata.nextLink\":\"http://127.0.0.1:8080/v1.0/me/drive/root/delta?token=t1.2.3\"",
+        "\"@odata.nextLink\":{}",
+        Member::NextLink,
+    ),
+    (Body::None, "\"value\":[]", "\"value\":5", Member::Value),
+    (
+        Body::Session,
+        "\"uploadUrl\":\"http://127.0.0.1:8080/v1.0/upload/7\"",
+        "\"uploadUrl\":\"http://127.0.0.1:8081/v1.0/upload/7\"",
+        Member::UploadUrl,
+    ),
+    (
+        Body::Begin,
+        "\"@microsoft.graph.conflictBehavior\":\"replace\"",
+        "\"@microsoft.graph.conflictBehavior\":\"REPLACE\"",
+        Member::ConflictBehavior,
+    ),
+    (
+        Body::Begin,
+        "\"name\":\"c\"",
+        "\"name\":false",
+        Member::Name,
+    ),
+    (
+        Body::Patch,
+        "\"parentReference\":{\"id\":\"01GD0000000000000004\"}",
+        "\"parentReference\":[]",
+        Member::ParentId,
+    ),
 ];
 
 #[test]
@@ -185,6 +224,60 @@ fn of_a_repeated_member_the_last_counts(rt: HostRuntime) -> Result<(), Fail> {
             refused(alloc, &wire, body, first.as_bytes()),
             None,
             "{bad},{good}"
+        );
+    }
+    Ok(())
+}
+
+/// A body, a member of it, and why the body is refused where the member lacks.
+type Lacking = (Body, &'static str, Option<JsonFault>);
+
+const LACKING: [Lacking; 8] = [
+    (
+        Body::Empty,
+        "\"value\":[]",
+        Some(JsonFault::Lacks(Member::Value)),
+    ),
+    (
+        Body::Empty,
+        "\"@odata.nextLink\":\"http://127.0.0.1:8080/v1.0/me/drive/root/delta?token=t1.2.3\"",
+        Some(JsonFault::Lacks(Member::NextLink)),
+    ),
+    (
+        Body::None,
+        "\"value\":[]",
+        Some(JsonFault::Lacks(Member::Value)),
+    ),
+    (Body::Patch, "\"name\":\"b\"", None),
+    (
+        Body::Patch,
+        "\"parentReference\":{\"id\":\"01GD0000000000000004\"}",
+        None,
+    ),
+    (Body::Begin, "\"name\":\"c\"", None),
+    (
+        Body::Begin,
+        "\"@microsoft.graph.conflictBehavior\":\"replace\"",
+        None,
+    ),
+    (
+        Body::Begin,
+        "\"item\":{\"@microsoft.graph.conflictBehavior\":\"replace\",\"name\":\"c\"}",
+        None,
+    ),
+];
+
+#[test]
+fn members_may_lack(rt: HostRuntime) -> Result<(), Fail> {
+    let alloc = rt.alloc();
+    let wire = wire(alloc)?;
+    for row in LACKING.as_slice() {
+        let (body, member, answer) = *row;
+        let text = changed(alloc, text_of(body), member, "\"other\":0")?;
+        assert_eq!(rt;
+            refused(alloc, &wire, body, text.as_bytes()),
+            answer,
+            "{member}"
         );
     }
     Ok(())
