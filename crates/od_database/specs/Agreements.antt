@@ -1,5 +1,6 @@
 -- An agreement as a row of the table `base`, and back. The kind is 0 for nothing, 1 for a folder and 2 for a file.
-use Rattle.std.specs.Prelude.{◌≡◌, ℕ, ℤ, pos, negsuc, List, length, if◌then◌else◌, nat_eq, Option, Some, None}
+use Rattle.std.specs.Prelude.{◌≡◌, ℕ, ℤ, pos, negsuc, Bool, false, List, length, if◌then◌else◌, nat_eq, Option, Some, None}
+use Rattle.std.specs.Cmp.Lexicographic.{pointwise}
 use Rattle.std.specs.Option.{option_map}
 use Rattle.gd_names.specs.Paths.{path_text, path_of_text}
 use Rattle.gd_item.specs.declared.digest.Digest.{Digest}
@@ -27,6 +28,22 @@ agreement_row base = record {
   digest = agreed_blob base.what;
   flight = option_map digest_blob base.flight;
 }
+
+-- whether the text of a path is read back as that path: no name with a `/` in it, and no empty one, is
+abbrev pub is_same_path : List (List ℕ) → Option (List (List ℕ)) → Bool
+is_same_path path None = false
+is_same_path path (Some read) = pointwise (pointwise nat_eq) read path
+
+abbrev pub is_spelled : List (List ℕ) → Bool
+is_spelled path = is_same_path path (path_of_text (path_text path))
+
+-- the text of a path that is read back from it
+abbrev pub spelled : List (List ℕ) → Option (List ℕ)
+spelled path = if is_spelled path then Some (path_text path) else None
+
+-- the row of an agreement, if its path is read back from it
+abbrev pub agreement_of : BaseRow → Option AgreementRow
+agreement_of base = if is_spelled base.path then Some (agreement_row base) else None
 
 -- what was agreed on: a digest stands in a row of kind 2 and in no other
 abbrev pub agreed_file : Option (List ℕ) → Option Agreed

@@ -1,13 +1,12 @@
 -- What a change writes, one row after another: its parts in their order, reset, rules, token, gone, put, dropped, rows.
-use Rattle.std.specs.Prelude.{◌≡◌, ℕ, Bool, cond, List, [], ◌∷◌, ◌++◌, map, Option, Some, None}
+use Rattle.std.specs.Prelude.{◌≡◌, ℕ, Bool, cond, List, [], ◌∷◌, ◌++◌, Option, Some, None}
 use Rattle.std.specs.Option.{option_map}
-use Rattle.gd_names.specs.Paths.{path_text}
 use Rattle.gd_item.specs.declared.digest.Digest.{Digest}
 use Rattle.gd_item.specs.declared.id.ItemId.{ItemId}
 use Rattle.gd_item.specs.declared.item.Item.{Item}
 use Rattle.od_keeper.specs.declared.image.BaseRow.{BaseRow}
 use Rattle.od_keeper.specs.declared.image.Change.{Change}
-use Rattle.od_database.specs.Agreements.{agreement_row}
+use Rattle.od_database.specs.Agreements.{agreement_of, spelled}
 use Rattle.od_database.specs.Entries.{row_of}
 use Rattle.od_database.specs.Numbers.{integer_of, digest_text}
 use Rattle.od_database.specs.declared.write.Write.{Write}
@@ -47,18 +46,18 @@ gone_write id = option_map Gone (integer_of id.0)
 abbrev pub put_write : Item → Option Write
 put_write item = option_map Put (row_of item)
 
-abbrev pub dropped_write : List (List ℕ) → Write
-dropped_write path = Dropped (path_text path)
+abbrev pub dropped_write : List (List ℕ) → Option Write
+dropped_write path = option_map Dropped (spelled path)
 
-abbrev pub row_write : BaseRow → Write
-row_write base = Row (agreement_row base)
+abbrev pub row_write : BaseRow → Option Write
+row_write base = option_map Row (agreement_of base)
 
 -- what the reset, the rules and the token write
 abbrev pub whole_writes : Change → List Write
 whole_writes change = (reset_writes change.reset ++ rules_writes change.rules) ++ token_writes change.token
 
--- all that a change writes, if each number in it fits and each item has a row
+-- all that a change writes, if each number in it fits, each item has a row and each path is read back from its text
 abbrev pub writes_of : Change → Option (List Write)
 writes_of change =
-    more (more (more (Some (whole_writes change)) (collected gone_write change.gone)) (collected put_write change.put))
-    (Some (map dropped_write change.dropped ++ map row_write change.rows))
+    more (more (more (more (Some (whole_writes change)) (collected gone_write change.gone)) (collected put_write change.put))
+    (collected dropped_write change.dropped)) (collected row_write change.rows)

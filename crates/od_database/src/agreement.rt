@@ -1,8 +1,9 @@
 //! The rows of the table of agreements.
-ghost use Rattle.std.specs.Prelude.{◌≡◌, pos, None, Some, IfOk, IsErrOf};
+ghost use Rattle.std.specs.Prelude.{◌≡◌, pos, true, false, None, Some, IfOk, IsErrOf};
 ghost use Rattle.std.specs.Option.{option_map};
+ghost use Rattle.gd_names.specs.Paths.{path_text};
 ghost use Rattle.od_database.specs.Numbers.{digest_blob};
-ghost use Rattle.od_database.specs.Agreements.{agreed_code, agreed_blob, agreement_row, agreed_file, agreed_of, flight_of, base_of};
+ghost use Rattle.od_database.specs.Agreements.{agreed_code, agreed_blob, agreement_of, agreed_file, agreed_of, flight_of, base_of, is_spelled};
 
 use crate::fault::DatabaseFault;
 use crate::number::{digest_blob, digest_from, natural_of};
@@ -93,11 +94,34 @@ fn flight_of(flight: &Option<Bytes>) -> Option<Option<Digest>>
     }
 }
 
+/// The text of the path. Refused where it is not read back as that path.
+pub fn spelled(alloc: Global, path: &Path) -> Result<Text, DatabaseFault>
+    ensures ok { IfOk result (λ text. (is_spelled path.now ≡ true) × (text ≡ path_text path.now)) }
+    ensures refused { IsErrOf result DatabaseFault.NoImage → is_spelled path.now ≡ false }
+    ensures taken { IsErrOf result DatabaseFault.Refused → ⊥ }
+{
+    let text = path.write(alloc)?;
+    match Path::read(alloc, text.as_bytes()) {
+        Ok(read) => {
+            if read == *path {
+                Ok(text)
+            } else {
+                Err(DatabaseFault::NoImage)
+            }
+        }
+        Err(PathFault::BadPath) => Err(DatabaseFault::NoImage),
+        Err(PathFault::Memory) => Err(DatabaseFault::Memory),
+    }
+}
+
 impl AgreementRow {
-    pub fn of(alloc: Global, base: &BaseRow) -> Result<AgreementRow, NoMemory>
-        ensures { IfOk result (λ row. row ≡ agreement_row base.now) }
+    /// The row of an agreement. Refused where the text of its path is not read back as that path.
+    pub fn of(alloc: Global, base: &BaseRow) -> Result<AgreementRow, DatabaseFault>
+        ensures ok { IfOk result (λ row. agreement_of base.now ≡ Some row) }
+        ensures refused { IsErrOf result DatabaseFault.NoImage → agreement_of base.now ≡ None }
+        ensures taken { IsErrOf result DatabaseFault.Refused → ⊥ }
     {
-        let path = base.path.write(alloc)?;
+        let path = spelled(alloc, &base.path)?;
         let digest = agreed_blob(alloc, &base.what)?;
         let flight = flight_blob(alloc, &base.flight)?;
         Ok(AgreementRow {

@@ -1,6 +1,7 @@
 //! What the tables hold, and the image that it is.
 ghost use Rattle.std.specs.Prelude.{◌≡◌, None, Some, IfOk, IsErrOf};
 ghost use Rattle.od_keeper.specs.Images.{by_id, by_path};
+ghost use Rattle.od_keeper.specs.declared.image.Image.{Image};
 ghost use Rattle.od_database.specs.Agreements.{base_of};
 ghost use Rattle.od_database.specs.Entries.{item_of};
 ghost use Rattle.od_database.specs.Stored.{ascends, is_current, is_less, rules_of, IsImageOf};
@@ -119,6 +120,7 @@ impl Tables {
     /// The image that they hold. Rows come in any order of path, since the order of their texts is another one.
     pub fn into_image(self, alloc: Global) -> Result<Image, DatabaseFault>
         ensures ok { IfOk result (λ image. IsImageOf self image) }
+        ensures refused { IsErrOf result DatabaseFault.NoImage → (image : Image) → IsImageOf self image → ⊥ }
         ensures taken { IsErrOf result DatabaseFault.Refused → ⊥ }
     {
         let Tables {

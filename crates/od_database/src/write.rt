@@ -1,8 +1,8 @@
 //! What a change writes, as a list that contracts can name.
-ghost use Rattle.std.specs.Prelude.{◌≡◌, [], ◌∷◌, ◌++◌, map, None, Some, IfOk, OnOk, IsErrOf};
+ghost use Rattle.std.specs.Prelude.{◌≡◌, [], ◌∷◌, ◌++◌, None, Some, IfOk, OnOk, IsErrOf};
 ghost use Rattle.od_database.specs.Writes.{collected, more, whole_writes, gone_write, put_write, dropped_write, row_write, writes_of};
 
-use crate::agreement::AgreementRow;
+use crate::agreement::{AgreementRow, spelled};
 use crate::entry::EntryRow;
 use crate::fault::DatabaseFault;
 use crate::number::{digest_text, integer_of};
@@ -70,18 +70,22 @@ fn push_put(writes: &mut Vec<Write>, alloc: Global, items: &[Item]) -> Result<()
     Ok(())
 }
 
-fn push_dropped(writes: &mut Vec<Write>, alloc: Global, paths: &[Path]) -> Result<(), NoMemory>
-    ensures { OnOk result (writes.new.items ≡ writes.old.items ++ map dropped_write paths.now) }
+fn push_dropped(writes: &mut Vec<Write>, alloc: Global, paths: &[Path]) -> Result<(), DatabaseFault>
+    ensures ok { OnOk result (more (Some writes.old.items) (collected dropped_write paths.now) ≡ Some writes.new.items) }
+    ensures refused { IsErrOf result DatabaseFault.NoImage → more (Some writes.old.items) (collected dropped_write paths.now) ≡ None }
+    ensures taken { IsErrOf result DatabaseFault.Refused → ⊥ }
 {
     for path in paths {
-        let text = path.write(alloc)?;
+        let text = spelled(alloc, path)?;
         writes.push(Write::Dropped(text))?;
     }
     Ok(())
 }
 
-fn push_rows(writes: &mut Vec<Write>, alloc: Global, rows: &[BaseRow]) -> Result<(), NoMemory>
-    ensures { OnOk result (writes.new.items ≡ writes.old.items ++ map row_write rows.now) }
+fn push_rows(writes: &mut Vec<Write>, alloc: Global, rows: &[BaseRow]) -> Result<(), DatabaseFault>
+    ensures ok { OnOk result (more (Some writes.old.items) (collected row_write rows.now) ≡ Some writes.new.items) }
+    ensures refused { IsErrOf result DatabaseFault.NoImage → more (Some writes.old.items) (collected row_write rows.now) ≡ None }
+    ensures taken { IsErrOf result DatabaseFault.Refused → ⊥ }
 {
     for base in rows {
         let row = AgreementRow::of(alloc, base)?;
@@ -90,7 +94,8 @@ fn push_rows(writes: &mut Vec<Write>, alloc: Global, rows: &[BaseRow]) -> Result
     Ok(())
 }
 
-/// All that the change writes. Refused where a number does not fit an INTEGER, and for a deleted item.
+/// All that the change writes. Refused where a number does not fit an INTEGER, for a deleted item, and where the text of
+/// a path is not read back as that path.
 pub fn writes_of(alloc: Global, change: &Change) -> Result<List<Write>, DatabaseFault>
     ensures ok { IfOk result (λ writes. writes_of change.now ≡ Some writes) }
     ensures refused { IsErrOf result DatabaseFault.NoImage → writes_of change.now ≡ None }
