@@ -1,0 +1,143 @@
+use super::wire;
+use gd_http::{Incoming, ReadStep, RequestReader, write_request};
+use gd_item::{Address, Condition, ItemId, Request, RequestKind};
+use gd_names::{Bytes, Conflict, Path, Text};
+use std::alloc::Global;
+use std::test::Fail;
+
+fn list(alloc: Global) -> Result<Request, Fail> {
+    Ok(Request::Children {
+        at: Address::ByPath(Path::read(alloc, b"/a%20b/c")?),
+        after: Some(Text::from_str(alloc, "d e")?),
+    })
+}
+
+fn make_folder(alloc: Global) -> Result<Request, Fail> {
+    Ok(Request::MakeFolder {
+        at: Address::Id(ItemId(1)),
+        name: Text::from_str(alloc, "a \"b\"")?,
+        behaviour: Conflict::Rename,
+    })
+}
+
+fn put(alloc: Global) -> Result<Request, Fail> {
+    Ok(Request::Put {
+        at: Address::Child(ItemId(26), Text::from_str(alloc, "50%")?),
+        bytes: Bytes::from_slice(alloc, b"hi")?,
+        behaviour: Conflict::Fail,
+        condition: Condition::Match(Text::from_str(alloc, "e1")?),
+    })
+}
+
+fn patch(alloc: Global) -> Result<Request, Fail> {
+    Ok(Request::Patch {
+        at: Address::Id(ItemId(2)),
+        name: Some(Text::from_str(alloc, "b")?),
+        parent: Some(ItemId(3)),
+        condition: Condition::Free,
+    })
+}
+
+fn open_session(alloc: Global) -> Result<Request, Fail> {
+    Ok(Request::OpenSession {
+        at: Address::Id(ItemId(2)),
+        name: Some(Text::from_str(alloc, "b")?),
+        behaviour: Conflict::Replace,
+        condition: Condition::Match(Text::from_str(alloc, "*")?),
+        defer: true,
+    })
+}
+
+fn send(alloc: Global) -> Result<Request, Fail> {
+    Ok(Request::Fragment {
+        session: 7,
+        first: 0,
+        last: 1,
+        total: 2,
+        bytes: Bytes::from_slice(alloc, b"hi")?,
+    })
+}
+
+fn feed(alloc: Global) -> Result<Request, Fail> {
+    Ok(Request::Delta {
+        token: Some(Text::from_str(alloc, "t1.5.5")?),
+    })
+}
+
+/// A request that has no texts and no bytes.
+fn plain(kind: RequestKind) -> Request {
+    let at = Address::Id(ItemId(2));
+    match kind {
+        RequestKind::Delete => Request::Delete {
+            at,
+            condition: Condition::Free,
+        },
+        RequestKind::Content => Request::Content { at },
+        RequestKind::Download => Request::Download {
+            id: ItemId(2),
+            version: 7,
+        },
+        RequestKind::SessionStatus => Request::SessionStatus { session: 7 },
+        RequestKind::CancelSession => Request::CancelSession { session: 7 },
+        RequestKind::Finish => Request::Finish { session: 7 },
+        _ => Request::Get { at },
+    }
+}
+
+/// A request of the kind.
+fn some(alloc: Global, kind: RequestKind) -> Result<Request, Fail> {
+    match kind {
+        RequestKind::Children => list(alloc),
+        RequestKind::MakeFolder => make_folder(alloc),
+        RequestKind::Put => put(alloc),
+        RequestKind::Patch => patch(alloc),
+        RequestKind::OpenSession => open_session(alloc),
+        RequestKind::Fragment => send(alloc),
+        RequestKind::Delta => feed(alloc),
+        _ => Ok(plain(kind)),
+    }
+}
+
+/// Whether the bytes are this request and nothing more.
+fn is_whole(alloc: Global, bytes: &[u8], request: Request) -> Result<bool, Fail> {
+    let mut reader = RequestReader::new(alloc, wire(alloc)?)?;
+    match reader.feed(bytes)? {
+        ReadStep::Done(message, used) => {
+            Ok(used == bytes.len() && message == Incoming::Ask(request))
+        }
+        _ => Ok(false),
+    }
+}
+
+/// Whether a written request of the kind is read as it was.
+fn is_read_again(alloc: Global, kind: RequestKind) -> Result<bool, Fail> {
+    let request = some(alloc, kind)?;
+    let bytes = write_request(alloc, &request, &wire(alloc)?)?;
+    if request.kind() != kind {
+        return Ok(false);
+    }
+    is_whole(alloc, bytes.as_slice(), request)
+}
+
+#[test]
+fn written_requests_are_read_again(rt: HostRuntime) -> Result<(), Fail> {
+    for kind in [
+        RequestKind::Get,
+        RequestKind::Children,
+        RequestKind::MakeFolder,
+        RequestKind::Put,
+        RequestKind::Patch,
+        RequestKind::Delete,
+        RequestKind::Content,
+        RequestKind::Download,
+        RequestKind::OpenSession,
+        RequestKind::Fragment,
+        RequestKind::SessionStatus,
+        RequestKind::CancelSession,
+        RequestKind::Finish,
+        RequestKind::Delta,
+    ] {
+        assert!(rt; is_read_again(rt.alloc(), kind)?, "{kind:?}");
+    }
+    Ok(())
+}
