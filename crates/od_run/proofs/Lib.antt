@@ -1,0 +1,10 @@
+pub mod Accepting
+pub mod Among
+pub mod Chaining
+pub mod Feeding
+pub mod Goods
+pub mod Holding
+pub mod Keeping
+pub mod Lasts
+pub mod Losing
+pub mod Origins
