@@ -13,9 +13,11 @@ use Rattle.od_keeper.specs.Sound.{IsSound}
 use Rattle.od_keeper.specs.declared.image.Agreed.TheVariants.{File}
 use Rattle.od_keeper.specs.declared.image.Image.{Image}
 use Rattle.od_keeper.proofs.Growing.{sound-stays}
+use Rattle.od_synclist.specs.declared.rule.Rule.{Rule}
 use Rattle.od_tree.specs.Collisions.{NoCollision}
-use Rattle.od_tree.specs.Local.{local_of}
+use Rattle.od_tree.specs.Local.{after_op, local_of}
 use Rattle.od_tree.specs.Loss.{no_loss}
+use Rattle.od_tree.specs.Undisturbed.{NoUser}
 use Rattle.od_tree.specs.declared.edit.UserEdit.{UserEdit}
 use Rattle.od_tree.specs.declared.step.LocalStep.TheVariants.{User, Op}
 use Rattle.od_tree.specs.declared.step.TreeOp.{TreeOp}
@@ -23,12 +25,14 @@ use Rattle.od_tree.specs.declared.step.TreeOp.TheVariants as op
 use Rattle.od_run.specs.Acting.{LegalFrom, May, MayDo, MayKeep, MayRequest}
 use Rattle.od_run.specs.Good.{AreSound, Good, IfPulled, IsFeedOf, IsHeldAs, IsPulledAt, LosesNothing}
 use Rattle.od_run.specs.Knowing.{Feed, Known, begins, learn, learned}
-use Rattle.od_run.specs.Moments.{is_own_delta}
+use Rattle.od_run.specs.Moments.{is_own_delta, since_listed}
+use Rattle.od_run.specs.Settling.{AreEqual, IsSettled}
 use Rattle.od_run.specs.Worlds.{World, Event, Asked, Worked, Kept, happens, now}
 use Rattle.od_run.proofs.Among.{of-each}
 use Rattle.od_run.proofs.Accepting.{all-later, there-accepted}
 use Rattle.od_run.proofs.Feeding.{Asks, feed-other, feed-own}
 use Rattle.od_run.proofs.Holding.{held-called, held-edited}
+use Rattle.od_run.proofs.Scanning.{scanned-called, scanned-edited, settled}
 use Rattle.od_run.proofs.Losing.{loses-discard, loses-drive, loses-step}
 use Rattle.od_run.proofs.Keeping.{kept-sound, row-so, last-sound, sound-token, sounds-later}
 
@@ -45,6 +49,7 @@ drive-grows w k size other elsewhere good = record {
   feed = feed-other w.drive other k.feed elsewhere good.feed;
   brought = all-later w.drive (other ∷ []) k.there.brought good.brought;
   held_read = good.held_read;
+  scanned = good.scanned;
 }
 
 -- a request of the client
@@ -56,6 +61,7 @@ asked w k size request served heard good may = record {
   feed = feed-own w.drive size k.feed request served heard (may-ask k request may) good.feed;
   brought = there-accepted w.drive k request served heard good.brought;
   held_read = good.held_read;
+  scanned = good.scanned;
 }
 
 -- ---- the keeper
@@ -78,16 +84,29 @@ kept w k image good may =
       feed = feed-kept w.drive image k.feed k.feed.begun refl sound good.feed;
       brought = good.brought;
       held_read = good.held_read;
+      scanned = good.scanned;
     }
 
 -- ---- the folder
 edited : (w : World) (k : Known) (edit : UserEdit) → Good w k → Good (happens w (Worked (User edit))) k
-edited w k edit good =
-    record { sound = good.sound; image = good.image; feed = good.feed; brought = good.brought; held_read = held-edited w.local edit k.here.held_read good.held_read }
+edited w k edit good = record {
+  sound = good.sound;
+  image = good.image;
+  feed = good.feed;
+  brought = good.brought;
+  held_read = held-edited w.local edit k.here.held_read good.held_read;
+  scanned = scanned-edited w.local edit k.here.scanned good.scanned;
+}
 
 called : (w : World) (k : Known) (call : TreeOp) → Good w k → Good (happens w (Worked (Op call))) (learn w k (Worked (Op call)))
-called w k call good =
-    record { sound = good.sound; image = good.image; feed = good.feed; brought = good.brought; held_read = held-called w.local k.here call good.held_read }
+called w k call good = record {
+  sound = good.sound;
+  image = good.image;
+  feed = good.feed;
+  brought = good.brought;
+  held_read = held-called w.local k.here call good.held_read;
+  scanned = scanned-called w.local (local_of w.local) (after_op (local_of w.local) call) k.here call good.scanned;
+}
 
 -- ---- each kind
 pub good-after : (w : World) (k : Known) (event : Event) → Good w k → May k event → Good (happens w event) (learn w k event)
@@ -113,6 +132,7 @@ good-beginning w sound =
       feed = record { token = sound-token (last_image w.images).items w.drive (last_image w.images).token image.items; pulled = tt; unasked = λ begun. refl };
       brought = tt;
       held_read = tt;
+      scanned = tt;
     }
 
 pub images-sound : (w : World) (events : List Event) → AreSound w.drive w.images → LegalFrom w (begins w) events → AreSound (now w events).drive (now w events).images
@@ -139,3 +159,10 @@ loses-run w k (event ∷ events) good legal loses =
 pub nothing-lost : (w : World) (events : List Event) → AreSound w.drive w.images → LegalFrom w (begins w) events → no_loss w.local (accepted_by w.drive) ≡ true
     → NoCollision (now w events).local (accepted_by (now w events).drive) → no_loss (now w events).local (accepted_by (now w events).drive) ≡ true
 nothing-lost w events sound legal none apart = loses-run w (begins w) events (good-beginning w sound) legal (λ before. none) apart
+
+-- ---- settled
+pub settled-equal : (w : World) (events : List Event) (rules : List Rule) → AreSound w.drive w.images → LegalFrom w (begins w) events → IsSettled rules (learned w (begins w) events)
+    → NoUser (since_listed (now w events).local) → AreEqual rules (now w events)
+settled-equal w events rules sound legal is alone =
+    let good = good-run w (begins w) events (good-beginning w sound) legal in
+    settled rules (now w events) (learned w (begins w) events) good.feed good.scanned is alone

@@ -3,7 +3,7 @@ use Rattle.std.proofs.Common.{◌≡◌, Bool, true, false, ◌||◌, cond, List
 use Rattle.std.specs.List.{list_any}
 use Rattle.std.proofs.lemmas.Bool.{or_left, or_right}
 use Rattle.std.proofs.lemmas.List.Folds.{list_any-append}
-use Rattle.od_run.specs.Moments.{before_last}
+use Rattle.od_run.specs.Moments.{after_last, before_last}
 
 or-none : (a : Bool) → (a || false) ≡ a
 or-none true = refl
@@ -26,3 +26,12 @@ module _ {X : Type 0} (is : X → Bool) where
   last-missed (first ∷ xs) x other =
       ap (λ b. cond b (first ∷ before_last is (xs ++ x ∷ [])) []) (any-missed xs x other)
       ∙ ap (λ ys. cond (list_any is xs) (first ∷ ys) []) (last-missed xs x other)
+
+  -- the steps after the last one that is such
+  after-hit : (xs ys : List X) (x : X) → is x ≡ true → list_any is (xs ++ x ∷ ys) ≡ true
+  after-hit [] ys x such = or_left (is x) (list_any is ys) such
+  after-hit (first ∷ xs) ys x such = or_right (is first) (list_any is (xs ++ x ∷ ys)) (after-hit xs ys x such)
+
+  pub after-none : (xs ys : List X) (x : X) → is x ≡ true → list_any is ys ≡ false → after_last is (xs ++ x ∷ ys) ≡ ys
+  after-none [] ys x such none = ap (λ b. cond b (after_last is ys) ys) none
+  after-none (first ∷ xs) ys x such none = ap (λ b. cond b (after_last is (xs ++ x ∷ ys)) (xs ++ x ∷ ys)) (after-hit xs ys x such) ∙ after-none xs ys x such none

@@ -8,3 +8,5 @@ pub mod Keeping
 pub mod Lasts
 pub mod Losing
 pub mod Origins
+pub mod Scanning
+pub mod Truths

@@ -1,6 +1,6 @@
 -- What is good of a world and of what the client knows in it, and stays so.
-use Rattle.std.specs.Prelude.{◌≡◌, ℕ, ◌≤◌, true, false, List, ◌++◌, Option, Some, None}
-use Rattle.std.specs.List.{AllByRecursion}
+use Rattle.std.specs.Prelude.{◌≡◌, ℕ, ◌≤◌, true, false, List, [], ◌∷◌, ◌++◌, Option, Some, None}
+use Rattle.std.specs.List.{AllByRecursion, list_any}
 use Rattle.gd_item.specs.Steps.{accepted_by, number_of, state_of}
 use Rattle.gd_item.specs.Tokens.{token_of_text}
 use Rattle.gd_item.specs.declared.step.Step.{Step}
@@ -13,8 +13,10 @@ use Rattle.od_tree.specs.Local.{Local, held_at, local_of}
 use Rattle.od_tree.specs.Loss.{no_loss}
 use Rattle.od_tree.specs.declared.local.HeldFile.{HeldFile}
 use Rattle.od_tree.specs.declared.step.LocalStep.{LocalStep}
+use Rattle.od_tree.specs.declared.step.LocalStep.TheVariants.{User, Op}
+use Rattle.od_tree.specs.declared.step.TreeOp.TheVariants as op
 use Rattle.od_run.specs.Knowing.{Feed, Known, Path}
-use Rattle.od_run.specs.Moments.{last_asked}
+use Rattle.od_run.specs.Moments.{is_root_listing, last_asked}
 use Rattle.od_run.specs.Worlds.{World}
 
 -- the text is that of a token
@@ -58,6 +60,26 @@ IsHeldAs local entry = (file : HeldFile) × (held_at entry.0 local.held ≡ Some
 abbrev pub AreHeldAs : Local → List (ℕ × List ℕ) → Type 0
 AreHeldAs local entries = AllByRecursion (IsHeldAs local) entries
 
+-- since the root was listed the client only looked, and did not list it again
+abbrev pub IsLook : LocalStep → Type 0
+IsLook (User edit) = Unit {0}
+IsLook (Op (op.List at)) = Unit {0}
+IsLook (Op (op.Read at)) = Unit {0}
+IsLook (Op (op.ReadAside aside)) = Unit {0}
+IsLook (Op (op.Discard aside)) = Unit {0}
+IsLook (Op op.Asides) = Unit {0}
+IsLook (Op call) = ⊥
+
+pub record IsScannedAt (local scanned : List LocalStep) : Type 0 where
+  pub more : List LocalStep
+  pub grown : local ≡ scanned ++ Op (op.List []) ∷ more
+  pub looks : AllByRecursion IsLook more
+  pub once : list_any is_root_listing more ≡ false
+
+abbrev pub IfScanned : (List LocalStep → Type 0) → Option (List LocalStep) → Type 0
+IfScanned Holds None = Unit {0}
+IfScanned Holds (Some local) = Holds local
+
 -- no edit is lost, if no two contents have one digest
 abbrev pub LosesNothing : List LocalStep → List Step → Type 0
 LosesNothing local drive = NoCollision local (accepted_by drive) → no_loss local (accepted_by drive) ≡ true
@@ -68,3 +90,4 @@ pub record Good (w : World) (k : Known) : Type 0 where
   pub feed : IsFeedOf w.drive k.feed
   pub brought : AreAccepted w.drive k.there.brought
   pub held_read : AreHeldAs (local_of w.local) k.here.held_read
+  pub scanned : IfScanned (IsScannedAt w.local) k.here.scanned

@@ -4,4 +4,7 @@
 
 mod laws;
 
-pub use laws::{it_loses_nothing, its_images_are_sound, its_tokens_are_a_chain};
+pub use laws::{
+    it_loses_nothing, it_settles_on_equal_trees, its_agreements_were_so, its_images_are_sound,
+    its_tokens_are_a_chain,
+};
