@@ -1,8 +1,8 @@
 -- Each agreement that is committed was so.
-use Rattle.std.proofs.Common.{◌≡◌, ◌⊎◌, inl, inr, ⊎_elim, ℕ, ◌+◌, Bool, true, false, cond, is_none, List, [], ◌∷◌, ◌++◌, Option, Some, None, refl, ap, sym, subst, ◌∙◌, append_assoc}
+use Rattle.std.proofs.Common.{◌≡◌, ◌⊎◌, inl, inr, ⊎_elim, ℕ, ◌+◌, Bool, true, false, cond, is_none, List, [], ◌∷◌, ◌++◌, length, Option, Some, None, refl, ap, sym, subst, ◌∙◌, append_assoc, arith}
 use Rattle.std.specs.List.{AllByRecursion, Contains}
-use Rattle.std.proofs.lemmas.List.{append-nil}
-use Rattle.std.proofs.lemmas.List.Elements.{Contains-append_left, Contains-append_right}
+use Rattle.std.proofs.lemmas.List.{append-nil, length_push}
+use Rattle.std.proofs.lemmas.List.Elements.{Contains-append_cases, Contains-append_left, Contains-append_right, Contains-push_cases}
 use Rattle.gd_names.proofs.Each.{each-append, each-so}
 use Rattle.gd_item.specs.Inventory.{Effect, MadeFolder, PutNew, PutOver, Moved, Removed, live_at}
 use Rattle.gd_item.specs.Nodes.{below}
@@ -21,7 +21,7 @@ use Rattle.od_keeper.specs.declared.image.Agreed.{Agreed}
 use Rattle.od_keeper.specs.declared.image.Agreed.TheVariants.{Nothing, Folder, File}
 use Rattle.od_keeper.specs.declared.image.BaseRow.{BaseRow}
 use Rattle.od_keeper.specs.declared.image.Image.{Image}
-use Rattle.od_tree.specs.Local.{Local, after_op, after_step, after_steps, bytes_in, empty_folder, file_at, local_of, spot_at}
+use Rattle.od_tree.specs.Local.{Local, after_op, after_step, after_steps, bytes_in, empty_folder, file_at, file_in, local_of, spot_at}
 use Rattle.od_tree.specs.Loss.{reading_at, reading_by, readings, readings_after}
 use Rattle.od_tree.specs.declared.local.LocalFile.{LocalFile}
 use Rattle.od_tree.specs.declared.local.Spot.{Spot}
@@ -30,7 +30,7 @@ use Rattle.od_tree.specs.declared.step.LocalStep.TheVariants.{User, Op}
 use Rattle.od_tree.specs.declared.step.TreeOp.{TreeOp}
 use Rattle.od_tree.specs.declared.step.TreeOp.TheVariants as op
 use Rattle.od_tree.proofs.Steps.{local-snoc}
-use Rattle.od_run.specs.Acting.{AsPulled, HasFlight, HasRow, IsAt, IsOnItsWay, LegalFrom, May, MayAgree, MayKeep, MayKeepRow, WasThere}
+use Rattle.od_run.specs.Acting.{AsPulled, HasFlight, HasFlown, HasRow, IsAt, IsOnItsWay, LegalFrom, May, MayAgree, MayKeep, MayKeepRow, WasThere}
 use Rattle.od_run.specs.Good.{AreSound, Good, IfPulled, IsFeedOf, IsPulledAt}
 use Rattle.od_run.specs.Knowing.{Here, Known, Path, There, after_effects, after_listed, agreed_bytes, agreed_item, at_known_path, begins, brought_by, child_path, here_after, known_path, learn, stands, there_after, there_asked, there_brought, there_heard}
 use Rattle.od_run.specs.Truths.{AgreedOnce, BroughtOnce, HadOnce, IsNamed, ReadOnce, StoodOnce, WasSo, WereSo, made_of}
@@ -74,7 +74,7 @@ readings-more at local (step ∷ log) more =
     let rest = readings-more (at + 1) (after_step at local step) log more in
     (rest.0, ap (λ later. reading_by local step ++ later) rest.1 ∙ sym (append_assoc (reading_by local step) (readings_after (at + 1) (after_step at local step) log) rest.0))
 
-reading-later : (log more : List LocalStep) (reading : Path × List ℕ) → Contains (readings log) reading → Contains (readings (log ++ more)) reading
+pub reading-later : (log more : List LocalStep) (reading : Path × List ℕ) → Contains (readings log) reading → Contains (readings (log ++ more)) reading
 reading-later log more reading there =
     let rest = readings-more 0 empty_folder log more in
     subst (λ all. Contains all reading) (sym rest.1) (Contains-append_left (readings log) rest.0 reading there)
@@ -130,7 +130,7 @@ all-stood : (local more : List LocalStep) (facts : List (Path × Agreed)) → Ar
 all-stood local more facts are =
     each-so (λ (fact : Path × Agreed). StoodOnce local fact.0 fact.1) (λ (fact : Path × Agreed). StoodOnce (local ++ more) fact.0 fact.1) (λ fact once. stood-later local more fact.0 fact.1 once) facts are
 
-all-read : (local more : List LocalStep) (facts : List (Path × List ℕ)) → AllByRecursion (Contains (readings local)) facts → AllByRecursion (Contains (readings (local ++ more))) facts
+pub all-read : (local more : List LocalStep) (facts : List (Path × List ℕ)) → AllByRecursion (Contains (readings local)) facts → AllByRecursion (Contains (readings (local ++ more))) facts
 all-read local more facts are = each-so (Contains (readings local)) (Contains (readings (local ++ more))) (λ fact there. reading-later local more fact there) facts are
 
 all-brought : (drive more : List Step) (facts : List (Path × Agreed)) → AreBrought drive facts → AreBrought (drive ++ more) facts
@@ -273,10 +273,10 @@ newly-read log at =
     subst (λ all. AllByRecursion (Contains all) (reading_at at (file_at at (local_of log).spots))) (sym (readings-last 0 empty_folder log (Op (op.Read at))))
     (among-all (readings log) (reading_at at (file_at at (local_of log).spots)))
 
-abbrev Reads : List LocalStep → Here → TreeOp → Type 0
+abbrev pub Reads : List LocalStep → Here → TreeOp → Type 0
 Reads log here call = AllByRecursion (Contains (readings (log ++ Op call ∷ []))) (here_after log (local_of log) (after_op (local_of log) call) here call).read
 
-here-read : (log : List LocalStep) (here : Here) (call : TreeOp) → AllByRecursion (Contains (readings log)) here.read → Reads log here call
+pub here-read : (log : List LocalStep) (here : Here) (call : TreeOp) → AllByRecursion (Contains (readings log)) here.read → Reads log here call
 here-read log here (op.List []) so = tt
 here-read log here (op.Read at) so =
     each-append (Contains (readings (log ++ Op (op.Read at) ∷ []))) (reading_at at (file_at at (local_of log).spots)) here.read (newly-read log at)
@@ -298,7 +298,58 @@ had-pulled : (drive : List Step) (token : Option (List ℕ)) (pulled : Option (L
 had-pulled drive token None path what at had = absurd had
 had-pulled drive token (Some pulled) path what at had = record { first = pulled; more = at.more; grown = at.grown; had = had }
 
+-- what was read stood there
+file-stood : (at : Path) (spot : Spot) (file : Option LocalFile) (reading : Path × List ℕ) → spot.file ≡ file → Contains (reading_at at file) reading
+    → Contains (stands reading.0 (Some spot)) (reading.0, File (digest_record reading.1))
+file-stood at spot None reading is there = absurd (omega (arith, there.1))
+file-stood at spot (Some file) reading is there =
+    let same : (at, file.bytes) ≡ reading =
+    ⊎_elim (λ (none : Contains [] reading). absurd (omega (arith, none.1))) (λ one. one) (Contains-push_cases [] (at, file.bytes) reading there) in
+    let bytes : file.bytes ≡ reading.1 = ap (λ (r : Path × List ℕ). r.1) same in
+    let what : agreed_bytes (bytes_in spot.file) ≡ File (digest_record reading.1) = ap (λ f. agreed_bytes (bytes_in f)) is ∙ ap (λ b. File (digest_record b)) bytes in
+    subst (λ a. Contains (stands reading.0 (Some spot)) (reading.0, a)) what (among-head (reading.0, agreed_bytes (bytes_in spot.file)) [])
+
+path-read : (at : Path) (file : Option LocalFile) (reading : Path × List ℕ) → Contains (reading_at at file) reading → at ≡ reading.0
+path-read at None reading there = absurd (omega (arith, there.1))
+path-read at (Some file) reading there =
+    ap (λ (r : Path × List ℕ). r.0) (⊎_elim (λ (none : Contains [] reading). absurd (omega (arith, none.1))) (λ one. one) (Contains-push_cases [] (at, file.bytes) reading there))
+
+spot-stood : (at : Path) (local : Local) (found : Option Spot) (reading : Path × List ℕ) → spot_at at local.spots ≡ found → Contains (reading_at at (file_in found)) reading
+    → Contains (stands reading.0 (spot_at reading.0 local.spots)) (reading.0, File (digest_record reading.1))
+spot-stood at local None reading is there = absurd (omega (arith, there.1))
+spot-stood at local (Some spot) reading is there =
+    let here = file-stood at spot spot.file reading refl there in
+    let path : at ≡ reading.0 = path-read at spot.file reading there in
+    subst (λ found. Contains (stands reading.0 found) (reading.0, File (digest_record reading.1))) (sym (ap (λ p. spot_at p local.spots) (sym path) ∙ is)) here
+
+step-stood : (local : Local) (step : LocalStep) (reading : Path × List ℕ) → Contains (reading_by local step) reading
+    → Contains (stands reading.0 (spot_at reading.0 local.spots)) (reading.0, File (digest_record reading.1))
+step-stood local (Op (op.Read at)) reading there = spot-stood at local (spot_at at local.spots) reading refl there
+step-stood local (User edit) reading there = absurd (omega (arith, there.1))
+step-stood local (Op call) reading there = absurd (omega (arith, there.1))
+
+read-stood : (before log : List LocalStep) (reading : Path × List ℕ) → Contains (readings_after (length before) (local_of before) log) reading → StoodOnce (before ++ log) reading.0 (File (digest_record reading.1))
+read-stood before [] reading there = absurd (omega (arith, there.1))
+read-stood before (step ∷ log) reading there =
+    let after : Local = after_step (length before) (local_of before) step in
+    ⊎_elim
+    (λ now. record { first = before; more = step ∷ log; grown = refl; stood = step-stood (local_of before) step reading now })
+    (λ later.
+    let moved : Contains (readings_after (length (before ++ step ∷ [])) (local_of (before ++ step ∷ [])) log) reading =
+    subst (λ n. Contains (readings_after n (local_of (before ++ step ∷ [])) log) reading) (sym (length_push before step))
+    (subst (λ local. Contains (readings_after (length before + 1) local log) reading) (sym (local-snoc before step)) later) in
+    subst (λ steps. StoodOnce steps reading.0 (File (digest_record reading.1))) (append_assoc before (step ∷ []) log) (read-stood (before ++ step ∷ []) log reading moved))
+    (Contains-append_cases (reading_by (local_of before) step) (readings_after (length before + 1) after log) reading there)
+
 module _ (w : World) (k : Known) (good : Good w k) (so : Truth w k) where
+  flown-so : (path : Path) (what : Agreed) → HasFlown k path what → StoodOnce w.local path what
+  flown-so path Nothing flown = absurd flown
+  flown-so path Folder flown = absurd flown
+  flown-so path (File digest) flown =
+      let was : WasSo w.drive w.local flown.0 = of-each (WasSo w.drive w.local) k.image.rows flown.0 so.image flown.1 in
+      let once : ReadOnce w.local path (Some digest) = subst (λ p. ReadOnce w.local p (Some digest)) flown.2 (subst (λ f. ReadOnce w.local (flown.0).path f) flown.3 was.flight) in
+      subst (λ d. StoodOnce w.local path (File d)) (sym once.2) (read-stood [] w.local (path, once.0) once.1)
+
   agreed-so : (path : Path) (what : Agreed) → MayAgree k path what → AgreedOnce w.drive w.local path what
   agreed-so path what may =
       ⊎_elim (λ (nothing : what ≡ Nothing). inl nothing)
@@ -307,7 +358,7 @@ module _ (w : World) (k : Known) (good : Good w k) (so : Truth w k) where
       let was : WasSo w.drive w.local row.0 = of-each (WasSo w.drive w.local) k.image.rows row.0 so.image row.1 in
       subst (λ p. AgreedOnce w.drive w.local p what) row.2 (subst (λ a. AgreedOnce w.drive w.local row.0.path a) row.3 was.what))
       (λ seen. inr (
-        of-each (λ (fact : Path × Agreed). StoodOnce w.local fact.0 fact.1) k.here.stood (path, what) so.stood seen.0,
+        ⊎_elim (λ stood. of-each (λ (fact : Path × Agreed). StoodOnce w.local fact.0 fact.1) k.here.stood (path, what) so.stood stood) (λ flown. flown-so path what flown) seen.0,
         ⊎_elim (λ had. inl (had-pulled w.drive k.feed.token k.feed.pulled path what good.feed.pulled had))
             (λ did. inr (of-each (λ (fact : Path × Agreed). BroughtOnce w.drive fact.0 fact.1) k.there.brought (path, what) so.brought did)) seen.1,
       )) rest) may

@@ -14,6 +14,7 @@ use Rattle.gd_item.specs.Views.{AreItemsOf}
 use Rattle.gd_item.specs.declared.condition.Condition.{Condition}
 use Rattle.gd_item.specs.declared.condition.Condition.TheVariants.{Free, Match}
 use Rattle.gd_item.specs.declared.digest.Digest.{Digest}
+use Rattle.gd_item.specs.declared.id.ItemId.{ItemId}
 use Rattle.gd_item.specs.declared.live.LiveItem.{LiveItem}
 use Rattle.gd_item.specs.declared.request.Address.{Address}
 use Rattle.gd_item.specs.declared.request.Address.TheVariants.{Id, ByPath, Child}
@@ -31,7 +32,7 @@ use Rattle.od_tree.specs.declared.step.LocalStep.{LocalStep}
 use Rattle.od_tree.specs.declared.step.LocalStep.TheVariants.{User, Op}
 use Rattle.od_tree.specs.declared.step.TreeOp.{TreeOp}
 use Rattle.od_tree.specs.declared.step.TreeOp.TheVariants as op
-use Rattle.od_run.specs.Knowing.{Path, Known, Sending, begins, known_path, learn, reading_for}
+use Rattle.od_run.specs.Knowing.{Path, Known, begins, known_path, learn, reading_for, renamed_path, sent_as}
 use Rattle.od_run.specs.Worlds.{World, Event, Asked, Worked, Kept, happens}
 
 -- ---- what was so
@@ -83,16 +84,26 @@ pub record MaySend (k : Known) (at : Address) (behaviour : Conflict) (condition 
   pub reading : reading_for k at ≡ Some bytes
   pub once : Contains k.there.put at → ⊥
 
+-- an item is moved with its tag, and to a known folder if it gets another one
+abbrev pub IsKnownFolder : Known → Option ItemId → Type 0
+IsKnownFolder k None = Unit {0}
+IsKnownFolder k (Some id) = (path : Path) × (known_path k id.0 ≡ Some path)
+
+-- the client saw a folder at a path, or at one from which it renamed it to this path
+abbrev pub SawFolder : Known → Path → Type 0
+SawFolder k path =
+    Contains k.here.stood (path, Folder) ⊎ ((from : Path) × Contains k.here.stood (from, Folder) × (renamed_path k.here.renamed from ≡ path))
+
 -- a folder is made in a known folder, at a path where the client saw one
 abbrev pub MayMakeFolder : Known → Address → List ℕ → Conflict → Type 0
 MayMakeFolder k (Id id) name behaviour =
-    (behaviour ≡ Fail) × (path : Path) × (known_path k id.0 ≡ Some path) × Contains k.here.stood (path ++ name ∷ [], Folder)
+    (behaviour ≡ Fail) × (path : Path) × (known_path k id.0 ≡ Some path) × SawFolder k (path ++ name ∷ [])
 MayMakeFolder k (Child id spelt) name behaviour = ⊥
 MayMakeFolder k (ByPath path) name behaviour = ⊥
 
 -- a session of this client, and the part of its bytes that a fragment has
 abbrev pub IsSession : Known → ℕ → Type 0
-IsSession k session = (sending : Sending) × Contains k.there.sending sending × (sending.session ≡ session)
+IsSession k session = (bytes : List ℕ) × (sent_as k.there.sending session ≡ Some bytes)
 
 pub record IsPart (whole : List ℕ) (first last total : ℕ) (bytes : List ℕ) : Type 0 where
   pub total_is : total ≡ length whole
@@ -102,14 +113,14 @@ pub record IsPart (whole : List ℕ) (first last total : ℕ) (bytes : List ℕ)
 
 abbrev pub MaySendPart : Known → ℕ → ℕ → ℕ → ℕ → List ℕ → Type 0
 MaySendPart k session first last total bytes =
-    (sending : Sending) × Contains k.there.sending sending × (sending.session ≡ session) × IsPart sending.bytes first last total bytes
+    (whole : List ℕ) × (sent_as k.there.sending session ≡ Some whole) × IsPart whole first last total bytes
 
 abbrev pub MayRequest : Known → Request → Type 0
 MayRequest k (Get at) = ⊥
 MayRequest k (Children at after) = ⊥
 MayRequest k (MakeFolder at name behaviour) = MayMakeFolder k at name behaviour
 MayRequest k (Put at bytes behaviour condition) = MaySend k at behaviour condition bytes
-MayRequest k (Patch at name parent condition) = IsTagged k at condition
+MayRequest k (Patch at name parent condition) = IsTagged k at condition × IsKnownFolder k parent
 MayRequest k (Delete at condition) = IsTagged k at condition
 MayRequest k (Content at) = Unit {0}
 MayRequest k (Download id version) = Unit {0}
@@ -169,9 +180,15 @@ pub record IsPulledNow (k : Known) (image : Image) : Type 0 where
   pub token : image.token ≡ k.feed.token
   pub items : AsPulled (λ drive. AreItemsOf (state_of drive).plain image.items (records_of (held_by drive))) k.feed.pulled
 
--- an agreement stays, or was so here and there; one on nothing says nothing
+-- a file was on its way
+abbrev pub HasFlown : Known → Path → Agreed → Type 0
+HasFlown k path Nothing = ⊥
+HasFlown k path Folder = ⊥
+HasFlown k path (File digest) = HasFlight k path digest
+
+-- an agreement stays, or was so here and there, or was on its way and came there; one on nothing says nothing
 abbrev pub MayAgree : Known → Path → Agreed → Type 0
-MayAgree k path what = (what ≡ Nothing) ⊎ (HasRow k path what ⊎ (Contains k.here.stood (path, what) × WasThere k path what))
+MayAgree k path what = (what ≡ Nothing) ⊎ (HasRow k path what ⊎ ((Contains k.here.stood (path, what) ⊎ HasFlown k path what) × WasThere k path what))
 
 -- what is on its way stays so, or was read
 abbrev pub IsOnItsWay : Known → Path → Option Digest → Type 0

@@ -24,7 +24,7 @@ use Rattle.od_keeper.specs.Keeping.{last_image}
 use Rattle.od_keeper.specs.declared.image.Agreed.{Agreed}
 use Rattle.od_keeper.specs.declared.image.Agreed.TheVariants.{Nothing, Folder, File}
 use Rattle.od_keeper.specs.declared.image.Image.{Image}
-use Rattle.od_tree.specs.Local.{Local, after_op, bytes_in, file_at, greatest_number, held_at, is_path, local_of, spot_at}
+use Rattle.od_tree.specs.Local.{Local, after_op, bytes_in, file_at, greatest_number, held_at, is_path, local_of, moved_path, spot_at}
 use Rattle.od_tree.specs.Loss.{reading_at}
 use Rattle.od_tree.specs.declared.local.HeldFile.{HeldFile}
 use Rattle.od_tree.specs.declared.local.Spot.{Spot}
@@ -58,12 +58,13 @@ pub record There : Type 0 where
   pub sending : List Sending
 
 -- of the folder: its log where the client listed the root last, if it only looked since; and since then what stood at
--- paths where it looked or made something, and what it read, the last reading first. Of the held files those that it
--- knows of, with their former paths, and the bytes of those that it read
+-- paths where it looked or made something, what it read, the last reading first, and what it renamed, in order. Of the
+-- held files those that it knows of, with their former paths, and the bytes of those that it read
 pub record Here : Type 0 where
   pub scanned : Option (List LocalStep)
   pub stood : List (Path × Agreed)
   pub read : List (Path × List ℕ)
+  pub renamed : List (Path × Path)
   pub held : List (ℕ × Path)
   pub held_read : List (ℕ × List ℕ)
 
@@ -83,7 +84,7 @@ known_of image = record {
   image = image;
   feed = record { begun = false; token = image.token; pulled = None };
   there = nothing_there;
-  here = record { scanned = None; stood = []; read = []; held = []; held_read = [] };
+  here = record { scanned = None; stood = []; read = []; renamed = []; held = []; held_read = [] };
 }
 
 abbrev pub begins : World → Known
@@ -199,6 +200,11 @@ abbrev pub sending_of : ℕ → Option (List ℕ) → List Sending
 sending_of session None = []
 sending_of session (Some bytes) = record { session = session; bytes = bytes } ∷ []
 
+-- what a session of this client sends
+abbrev pub sent_as : List Sending → ℕ → Option (List ℕ)
+sent_as [] session = None
+sent_as (sending ∷ rest) session = cond (nat_eq sending.session session) (Some sending.bytes) (sent_as rest session)
+
 abbrev pub there_brought : State → Known → Request → There → There
 there_brought state k (OpenSession at name behaviour condition defer) there =
     record there { sending = sending_of (length state.openers + 1) (reading_for k at) ++ there.sending }
@@ -242,7 +248,7 @@ bytes_of_held aside None = []
 bytes_of_held aside (Some file) = (aside, file.file.bytes) ∷ []
 
 abbrev pub after_listed : List LocalStep → Here → Path → Here
-after_listed log here [] = record here { scanned = Some log; stood = []; read = [] }
+after_listed log here [] = record here { scanned = Some log; stood = []; read = []; renamed = [] }
 after_listed log here (name ∷ path) = seen_at (name ∷ path) (local_of log) here
 
 -- what is known after an operation, of the folder's log before it, and of the folder then and after it
@@ -252,12 +258,17 @@ here_after log local after here (op.Read at) = record (seen_at at local here) { 
 here_after log local after here (op.MakeDir at) = changed (seen_at at after here)
 here_after log local after here (op.RemoveDir at) = changed here
 here_after log local after here (op.Place at bytes) = changed (seen_at at after here)
-here_after log local after here (op.Rename from to) = changed here
+here_after log local after here (op.Rename from to) = changed (record here { renamed = here.renamed ++ (from, to) ∷ [] })
 here_after log local after here (op.SetAside at) = changed (record here { held = (greatest_number local.held + 1, at) ∷ here.held })
 here_after log local after here (op.ReadAside aside) = record here { held_read = bytes_of_held aside (held_at aside local.held) ++ here.held_read }
 here_after log local after here (op.PutBack aside to) = changed (seen_at to after (forgotten aside here))
 here_after log local after here (op.Discard aside) = forgotten aside here
 here_after log local after here op.Asides = record here { held = map (λ (file : HeldFile). (file.number, file.from)) local.held }
+
+-- the path of what stood at a path, after renames
+abbrev pub renamed_path : List (Path × Path) → Path → Path
+renamed_path [] path = path
+renamed_path (rename ∷ renames) path = renamed_path renames (moved_path rename.0 rename.1 path)
 
 -- ---- the fold
 -- before the client asks for changes, its token is that of the image

@@ -1,8 +1,11 @@
 -- The drive, the folder and the keeper as one world, and what happens in it, in one order.
 use Rattle.std.specs.Prelude.{ℕ, List, [], ◌∷◌, ◌++◌}
 use Rattle.gd_item.specs.declared.step.Step.{Step}
+use Rattle.gd_item.specs.declared.step.Step.TheVariants as step
+use Rattle.gd_item.specs.declared.step.Who.TheVariants.{Own, Other}
 use Rattle.od_keeper.specs.declared.image.Image.{Image}
 use Rattle.od_tree.specs.declared.step.LocalStep.{LocalStep}
+use Rattle.od_tree.specs.declared.step.LocalStep.TheVariants.{User, Op}
 
 pub record World : Type 0 where
   pub drive : List Step
@@ -14,6 +17,15 @@ pub data Event : Type 0 where
   Asked : (size : ℕ) (step : Step) → Event
   Worked : (step : LocalStep) → Event
   Kept : (image : Image) → Event
+
+-- a step of others: of another client, of the drive, or of the user
+abbrev pub IsOther : Event → Type 0
+IsOther (Asked size (step.Ask Own request served is_heard)) = ⊥
+IsOther (Asked size (step.Ask Other request served is_heard)) = Unit {0}
+IsOther (Asked size (step.Event event)) = Unit {0}
+IsOther (Worked (User edit)) = Unit {0}
+IsOther (Worked (Op call)) = ⊥
+IsOther (Kept image) = ⊥
 
 abbrev pub happens : World → Event → World
 happens w (Asked size step) = record { drive = w.drive ++ step ∷ []; local = w.local; images = w.images }
