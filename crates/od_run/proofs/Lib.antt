@@ -1,0 +1,17 @@
+pub mod Accepting
+pub mod Among
+pub mod Chaining
+pub mod Conditions
+pub mod Feeding
+pub mod Goods
+pub mod Holding
+pub mod Keeping
+pub mod Lasts
+pub mod Legal
+pub mod Losing
+pub mod Once
+pub mod Origins
+pub mod Parts
+pub mod Scanning
+pub mod Truths
+pub mod Uploading
