@@ -29,6 +29,7 @@ use Rattle.od_transfer.specs.declared.remote.AskFault.{AskFault}
 use Rattle.od_transfer.specs.declared.remote.AskFault.TheVariants as ask
 use Rattle.od_sync.specs.declared.delta.DeltaFault.{DeltaFault}
 use Rattle.od_sync.specs.declared.delta.DeltaFault.TheVariants.{LinkFault, Unserved, Memory}
+use Rattle.gd_laws.proofs.Pages.{given_for, unless-cond}
 use Rattle.od_transfer.proofs.Logs.{such-others, such-also, such-append}
 use Rattle.od_sync.specs.Chains.{Chained}
 use Rattle.od_sync.specs.Deltas.{AskedDelta, AsksDelta, IsAskedWith, is_delta, is_own_delta, is_answered_delta, is_written_token, DeltaAsks, page_in, last_heard_after, heard_step, IsSpent, Spent, Untaken, PageHeard, EndsUnserved, SendsOnce, Sent, is_last_page}
@@ -36,15 +37,7 @@ use Rattle.od_sync.proofs.Chained.{chained-all, chained-also, chain-lost, chain-
 use Rattle.od_sync.proofs.Growth.{count-append}
 
 -- ---- what a drive answers that is asked for changes
-delta_given : State → ℕ → Asked → Reply
-delta_given state size a = cond (is_bad a) (refused (refuse 400 InvalidRequest)) (delta_reply state size a)
-
-unless-cond : (b : Bool) (r : Refusal) (state : State) (size : ℕ) (request : Request)
-    → answer_unless (cond b (Some r) None) state size request ≡ cond b (refused r) (reply_to state (after_request state Own request) size request)
-unless-cond true r state size request = refl
-unless-cond false r state size request = refl
-
-never-unserved : (state : State) (size : ℕ) (code : ErrorCode) (a : Asked) → reply.Refused 503 code ≡ cond (is_bad a) (refused (refuse 400 InvalidRequest)) (delta_reply state size a) → ⊥
+never-unserved : (state : State) (size : ℕ) (code : ErrorCode) (a : Asked) → reply.Refused 503 code ≡ given_for state size a → ⊥
 never-unserved state size code (Past position start) is = cc is
 never-unserved state size code Latest is = cc is
 never-unserved state size code Bad is = grind (arith, is)

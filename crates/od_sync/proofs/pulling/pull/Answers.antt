@@ -30,11 +30,6 @@ returns-in-Err-BadPages-clause-asks g c =
     pulls-asked c.args.items c.args.token c.in_ok-asked.asked c.start-mirror.result (g.R.Remote.log c.args.remote.now) (g.R.Remote.log c.ask_delta.new.remote) c.start-mirror.ensures c.in_ok-asked.ensures
     (λ is. absurd (cc is)) c.in-Ok.ensures.asks
 
-pub returns-in-Err-Memory-view_after-clause-asks : goal.returns-in-Err-Memory-view_after-clause-asks
-returns-in-Err-Memory-view_after-clause-asks g c =
-    pulls-asked c.args.items c.args.token c.in_ok-asked.asked c.start-mirror.result (g.R.Remote.log c.args.remote.now) (g.R.Remote.log c.ask_delta.new.remote) c.start-mirror.ensures c.in_ok-asked.ensures
-    (λ is. absurd (cc is)) c.in-Ok.ensures.asks
-
 pub returns-in-Err-LinkFault-clause-asks : goal.returns-in-Err-LinkFault-clause-asks
 returns-in-Err-LinkFault-clause-asks g c =
     pulls-asked c.args.items c.args.token c.in_ok-asked.asked c.start-mirror.result (g.R.Remote.log c.args.remote.now) (g.R.Remote.log c.ask_delta.new.remote) c.start-mirror.ensures c.in_ok-asked.ensures
