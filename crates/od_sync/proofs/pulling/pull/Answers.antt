@@ -44,3 +44,8 @@ pub returns-in-Err-Memory-clause-asks : goal.returns-in-Err-Memory-clause-asks
 returns-in-Err-Memory-clause-asks g c =
     pulls-asked c.args.items c.args.token c.in_ok-asked.asked c.start-mirror.result (g.R.Remote.log c.args.remote.now) (g.R.Remote.log c.ask_delta.new.remote) c.start-mirror.ensures c.in_ok-asked.ensures
     (λ _. refl) c.in-Err-Memory.ensures.asks
+
+pub returns-clause-asks : goal.returns-clause-asks
+returns-clause-asks g c =
+    pulls-asked c.args.items c.args.token c.in_ok-asked.asked c.start-mirror.result (g.R.Remote.log c.args.remote.now) (g.R.Remote.log c.ask_delta.new.remote) c.start-mirror.ensures c.in_ok-asked.ensures
+    (λ is. absurd (cc is)) c.in-Ok.ensures.asks
