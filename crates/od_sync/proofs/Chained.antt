@@ -28,17 +28,29 @@ chain-then a b c drive (step ∷ m1) m2 first second = (
 )
 
 -- to whichever token
-pub chained-all : (token last : Option (List ℕ)) (drive more : List Step) → IsChained token drive more last → Chained token drive more
+pub chained-all : {MayBeLost : Type 0} (token last : Option (List ℕ)) (drive more : List Step) → IsChained token drive more last → Chained MayBeLost token drive more
 chained-all token last drive more all = record { last = last; taken = more; chained = all; rest = inl refl }
 
-pub chained-then : (a b : Option (List ℕ)) (drive m1 m2 : List Step) → IsChained a drive m1 b → Chained b (drive ++ m1) m2 → Chained a drive (m1 ++ m2)
+pub chained-then : {MayBeLost : Type 0} (a b : Option (List ℕ)) (drive m1 m2 : List Step) → IsChained a drive m1 b → Chained MayBeLost b (drive ++ m1) m2 → Chained MayBeLost a drive (m1 ++ m2)
 chained-then a b drive m1 m2 first second = record {
   last = second.last;
   taken = m1 ++ second.taken;
   chained = chain-then a b second.last drive m1 second.taken first second.chained;
   rest = elim second.rest [
     | inl is ↦ inl (ap (λ steps. m1 ++ steps) is)
-    | inr is ↦ inr (ap (λ steps. m1 ++ steps) is ∙ sym (append_assoc m1 second.taken (Ask Own (Delta second.last) true true ∷ [])))
+    | inr is ↦ inr (is.0, ap (λ steps. m1 ++ steps) is.1 ∙ sym (append_assoc m1 second.taken (Ask Own (Delta second.last) true true ∷ [])))
+  ];
+}
+
+-- an answer that may be lost for one cause may be so for another
+pub chained-also : {P Q : Type 0} (token : Option (List ℕ)) (drive more : List Step) → (P → Q) → Chained P token drive more → Chained Q token drive more
+chained-also token drive more so c = record {
+  last = c.last;
+  taken = c.taken;
+  chained = c.chained;
+  rest = elim c.rest [
+    | inl is ↦ inl is
+    | inr is ↦ inr (so is.0, is.1)
   ];
 }
 
@@ -66,8 +78,8 @@ chain-spent token drive [] such = refl
 chain-spent token drive (step ∷ more) such = (token, spent-step token drive step such.0, chain-spent token (drive ++ step ∷ []) more such.1)
 
 -- such requests, and perhaps one that was answered in vain
-pub chain-lost : (token : Option (List ℕ)) (drive spent : List Step) → OwnAre (IsSpent (Delta token)) spent → Chained token drive (spent ++ Ask Own (Delta token) true true ∷ [])
-chain-lost token drive spent such = record { last = token; taken = spent; chained = chain-spent token drive spent such; rest = inr refl }
+pub chain-lost : {MayBeLost : Type 0} (token : Option (List ℕ)) (drive spent : List Step) → MayBeLost → OwnAre (IsSpent (Delta token)) spent → Chained MayBeLost token drive (spent ++ Ask Own (Delta token) true true ∷ [])
+chain-lost token drive spent lost such = record { last = token; taken = spent; chained = chain-spent token drive spent such; rest = inr (lost, refl) }
 
 -- an answer gives the next token
 pub chain-answered : (token : Option (List ℕ)) (drive : List Step) (size : ℕ) (text : List ℕ) → GivesToken (answer_of drive size (Delta token)) text

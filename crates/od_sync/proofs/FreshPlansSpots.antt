@@ -13,6 +13,7 @@ use Rattle.od_tree.specs.declared.local.Spot.{Spot}
 use Rattle.od_sync.specs.Doing.{CanMake, CanPlace, CanStand, folder_spot, placed_file}
 use Rattle.gd_names.proofs.Each.{each-append, each-both, each-so}
 use Rattle.gd_names.proofs.Ordered.{Path, Above, Rises, In, all-in, paths-total}
+use Rattle.od_tree.proofs.Below.{lower-apart}
 use Rattle.od_tree.proofs.Paths.{path-self, same-path}
 use Rattle.gd_laws.proofs.PlacedItems.{IsLed}
 use Rattle.od_sync.proofs.FreshPlansTrees.{Entry, file_of, files, folder_of, folders}
@@ -24,9 +25,6 @@ not-self a b low same = cc (sym (tied_itself paths-total b) ∙ sym (ap (λ (p :
 false-by : (b : Bool) → (b ≡ true → ⊥) → b ≡ false
 false-by true never = absurd (never refl)
 false-by false never = refl
-
-not-here : (a b : Path) → path_cmp a b ≡ Less → is_path a b ≡ false
-not-here a b low = false-by (is_path a b) (λ same. not-self a b low (same-path a b same))
 
 not-there : (a b : Path) → path_cmp a b ≡ Less → is_path b a ≡ false
 not-there a b low = false-by (is_path b a) (λ same. not-self a b low (sym (same-path b a same)))
@@ -111,7 +109,7 @@ make-at path None spots tree above stand here free led next = (
   stand,
   next (with_spot path None spots)
       (each-both (λ (entry : Entry). path_cmp path entry.0 ≡ Less) (λ (entry : Entry). IsFree entry.0 spots) (λ (entry : Entry). IsFree entry.0 (with_spot path None spots))
-      (λ entry low all. free-more entry.0 path None spots (not-here path entry.0 low) all) tree above free)
+      (λ entry low all. free-more entry.0 path None spots (lower-apart path entry.0 low) all) tree above free)
       (each-so (IsLedBy spots ((path, None) ∷ tree)) (IsLedBy (with_spot path None spots) tree) (led-by-folder path spots tree here) tree led),
 )
 make-at path (Some bytes) spots tree above stand here free led next =
@@ -158,7 +156,7 @@ place-at path (Some bytes) spots tree above below here parent free led next =
       record { free = not-taken path spots below here; parent = parent },
       next more
           (each-both (λ (entry : Entry). path_cmp path entry.0 ≡ Less) (λ (entry : Entry). IsFreeFile entry.0 entry.1 spots) (λ (entry : Entry). IsFreeFile entry.0 entry.1 more)
-          (λ entry low all. free-file-more entry.0 entry.1 path (Some (placed_file bytes)) spots (not-here path entry.0 low) all) tree above free)
+          (λ entry low all. free-file-more entry.0 entry.1 path (Some (placed_file bytes)) spots (lower-apart path entry.0 low) all) tree above free)
           (each-so (λ (entry : Entry). has_parent entry.0 spots ≡ true) (λ (entry : Entry). has_parent entry.0 more ≡ true)
           (λ entry there. folder-stays (names_above entry.0) spots (record { path = path; file = Some (placed_file bytes) } ∷ []) there) tree led),
     )
@@ -193,7 +191,7 @@ files-free-at path None tree above all = (
   tt,
   each-both (λ (entry : Entry). path_cmp path entry.0 ≡ Less) (λ (entry : Entry). IsFreeFile entry.0 entry.1 (map folder_spot (folders tree)))
       (λ (entry : Entry). IsFreeFile entry.0 entry.1 (folder_spot path ∷ map folder_spot (folders tree)))
-      (λ entry low free. free-file-first entry.0 entry.1 path (map folder_spot (folders tree)) (not-here path entry.0 low) free) tree above all,
+      (λ entry low free. free-file-first entry.0 entry.1 path (map folder_spot (folders tree)) (lower-apart path entry.0 low) free) tree above all,
 )
 files-free-at path (Some bytes) tree above all = (folders-apart path tree above, all)
 

@@ -1,13 +1,12 @@
 -- The folders and the files of a tree, and the entries that the folder then has, in order of path.
 use Rattle.std.proofs.Common.{◌≡◌, ℕ, List, [], ◌∷◌, ◌++◌, map, Option, Some, None, refl, ap, sym, ◌∙◌, append_assoc}
 use Rattle.std.proofs.lemmas.List.{append-nil, map-append}
-use Rattle.std.specs.BTreeMap.{insert_entry}
 use Rattle.std.specs.List.{AllByRecursion, cons_option, filter_map}
 use Rattle.std.specs.Ordering.{match_ordering, ordering_reverse}
 use Rattle.std.specs.declared.cmp.Ordering.TheVariants.{Less, Greater}
 use Rattle.gd_names.specs.Ordered.{path_cmp, in_order_from, in_order}
 use Rattle.gd_names.proofs.Each.{each-both, each-append, each-always}
-use Rattle.gd_names.proofs.Ordered.{Path, Above, Rises, paths-total}
+use Rattle.gd_names.proofs.Ordered.{Path, Above, Rises, paths-total, put, put-first}
 use Rattle.od_tree.specs.Local.{bytes_in, tree_of_spots}
 use Rattle.od_tree.specs.declared.local.Spot.{Spot}
 use Rattle.od_sync.specs.Doing.{file_spot, folder_spot}
@@ -44,9 +43,6 @@ after : (a b : Path) → path_cmp a b ≡ Less → path_cmp b a ≡ Greater
 after a b low = paths-total.antisymm b a ∙ ap ordering_reverse low
 
 module _ {X : Type 0} where
-  abbrev put : List (Path × X) → Path → X → List (Path × X)
-  put entries path x = insert_entry path_cmp entries path x
-
   -- a path is after all these
   abbrev Past : Path → List (Path × X) → Type 0
   Past path entries = AllByRecursion (λ (entry : Path × X). path_cmp path entry.0 ≡ Greater) entries
@@ -57,15 +53,10 @@ module _ {X : Type 0} where
       ap (λ o. match_ordering o ((path, x) ∷ entry ∷ front ++ back) ((entry.0, x) ∷ front ++ back) (entry ∷ put (front ++ back) path x)) past.0
       ∙ ap (λ (rest : List (Path × X)). entry ∷ rest) (put-past path x front back past.1)
 
-  put-front : (path : Path) (x : X) (entries : List (Path × X)) → Above path entries → put entries path x ≡ (path, x) ∷ entries
-  put-front path x [] above = refl
-  put-front path x (entry ∷ entries) above =
-      ap (λ o. match_ordering o ((path, x) ∷ entry ∷ entries) ((entry.0, x) ∷ entries) (entry ∷ put entries path x)) above.0
-
   put-between : (path : Path) (x : X) (front back : List (Path × X)) → Past path front → Above path back → put (front ++ back) path x ≡ (front ++ (path, x) ∷ []) ++ back
   put-between path x front back past above =
       put-past path x front back past
-      ∙ ap (λ (rest : List (Path × X)). front ++ rest) (put-front path x back above)
+      ∙ ap (λ (rest : List (Path × X)). front ++ rest) (put-first path x back above)
       ∙ sym (append_assoc front ((path, x) ∷ []) back)
 
   put-last : (path : Path) (x : X) (front : List (Path × X)) → Past path front → put front path x ≡ front ++ (path, x) ∷ []

@@ -45,8 +45,8 @@ abbrev IsSoundIn : Image → List Step → Type 0
 IsSoundIn image drive = IsSound image drive
 
 -- ---- a pull without a commit
-pub goes-pull : (image : Image) (before after : Option (List Step)) (local : Option (List LocalStep)) (images_before images_after : Option (List Image))
-    → AsksDelta image.token before after → Stay images_before images_after → Goes (IsSoundIn image) image before after local local images_before images_after
+pub goes-pull : {MayBeLost : Type 0} (image : Image) (before after : Option (List Step)) (local : Option (List LocalStep)) (images_before images_after : Option (List Image))
+    → AsksDelta MayBeLost image.token before after → Stay images_before images_after → Goes (IsSoundIn image) image before after local local images_before images_after
 goes-pull image before after local images_before images_after asks stay = record {
   told = λ drive steps images told local_told images_told last.
       let g = asks.told drive told in

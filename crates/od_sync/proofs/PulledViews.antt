@@ -7,8 +7,9 @@ use Rattle.gd_item.specs.declared.request.Request.TheVariants.{Delta}
 use Rattle.gd_item.specs.declared.step.Step.{Step}
 use Rattle.od_mirror.specs.Pulled.{Pulled, begun, after_page, nodes, IsView, IsLeastBad}
 use Rattle.od_mirror.specs.declared.view.MirrorView.{MirrorView}
-use Rattle.od_sync.specs.Deltas.{DeltaAsks, PageHeard}
+use Rattle.od_sync.specs.Deltas.{AsksDelta, DeltaAsks, PageHeard}
 use Rattle.od_sync.specs.Pulls.{LastPage, Pulls, StopsBad}
+use Rattle.od_sync.proofs.Sends.{asks-also}
 
 abbrev last-page : (token asked : Option (List ℕ)) (page : Page) (before after : Option (List Step)) → asked ≡ token → DeltaAsks (Delta asked) before after (Ok page)
     → (old : List Step) → before ≡ Some old → LastPage token old after
@@ -32,3 +33,9 @@ pulls-bad items token asked mirror page number before after begins is asks bad =
     bad = subst (λ (m : Pulled). IsLeastBad (nodes (values_of (after_page m page).items)) number) begins bad;
   };
 }
+
+-- it was asked with the token that it was begun with
+pub pulls-asked : {P Q : Type 0} (items : List Item) (token asked : Option (List ℕ)) (mirror : Pulled) (before after : Option (List Step)) → mirror ≡ begun items token → asked ≡ mirror.token → (P → Q)
+    → AsksDelta P asked before after → AsksDelta Q token before after
+pulls-asked {P} items token asked mirror before after begins is so asks =
+    asks-also token before after so (subst (λ (t : Option (List ℕ)). AsksDelta P t before after) (is ∙ ap (λ (m : Pulled). m.token) begins) asks)

@@ -1,6 +1,7 @@
 -- What is pulled and committed, where requests and images are told.
 use Rattle.std.proofs.Common.{◌≡◌, ℕ, ◌<◌, true, List, [], ◌∷◌, ◌++◌, length, Option, Some, Result, Ok, Err, ap, sym, subst, ◌∙◌}
 use Rattle.std.specs.List.{All}
+use Rattle.std.specs.Prelude.{IsErrOf}
 use Rattle.std.specs.Result.{IsErr, IsErrAnd}
 use Rattle.gd_item.specs.Ids.{item_id}
 use Rattle.gd_item.specs.Steps.{state_of, accepted_by}
@@ -135,3 +136,18 @@ pub stopped-bad : {S T : Type 0} (pulled : Result S PullStop) (fault : PullStop)
     → result ≡ Err (stop.BadPages (item_id n)) → pulled ≡ Err (pull.BadPages (item_id n))
 stopped-bad pulled fault result n was is same =
     was ∙ ap (λ f. Err f) (bad-pull fault (item_id n) (stop-is result (stop_of_pull fault) (stop.BadPages (item_id n)) is same))
+
+stopped-is : {T : Type 0} (result : Result T SyncStop) (s : SyncStop) → IsErr result × IsErrAnd result (λ other. other ≡ s) → result ≡ Err s
+stopped-is (Ok x) s is = absurd (cc is.0)
+stopped-is (Err other) s is = ap (λ e. Err e) is.1
+
+pub stopped-memory : {S T : Type 0} (fault : PullStop) (result : Result T SyncStop) → IsErr result × IsErrAnd result (λ s. s ≡ stop_of_pull fault) → IsErrOf {T = S} (Err fault) pull.Memory
+    → IsErrOf result stop.Memory
+stopped-memory fault result is memory =
+    let same : fault ≡ pull.Memory = cc memory in
+    stopped-is result (stop_of_pull fault) is ∙ ap (λ f. Err (stop_of_pull f)) same
+
+pub stopped-same : {S T : Type 0} (fault : SyncStop) (result : Result T SyncStop) → IsErr result × IsErrAnd result (λ s. s ≡ fault) → IsErrOf {T = S} (Err fault) stop.Memory → IsErrOf result stop.Memory
+stopped-same fault result is memory =
+    let same : fault ≡ stop.Memory = cc memory in
+    stopped-is result fault is ∙ ap (λ f. Err f) same

@@ -50,11 +50,11 @@ use Rattle.od_sync.specs.Pulls.{PullsBad, StopsBad}
 use Rattle.od_sync.specs.Looks.{AllUnlike, AreWhole, IsWithin, Looked, found_until}
 use Rattle.od_sync.specs.Syncs.{EndedBad, IsFromDrive, since_listed}
 use Rattle.od_sync.specs.declared.ends.SyncStop.{SyncStop}
-use Rattle.od_sync.specs.declared.ends.SyncStop.TheVariants.{BadPages, Unserved}
+use Rattle.od_sync.specs.declared.ends.SyncStop.TheVariants.{BadPages, Memory, Unserved}
 use Rattle.od_sync.specs.declared.looking.Sides.{Sides}
 use Rattle.od_sync.specs.declared.planning.Fetching.{Fetching}
 use Rattle.od_sync.specs.declared.scanning.Node.{Node}
-use Rattle.od_sync.proofs.Chained.{chain-then, chain-transfers, chained-all}
+use Rattle.od_sync.proofs.Chained.{chain-then, chain-transfers, chained-all, chained-also}
 use Rattle.od_sync.proofs.Compares.{answered-keeps, compared-same, edited-none, listed-last, look-same, look-unlike, looks-keep, none-unlike, rest-alone, unlike-before}
 use Rattle.od_sync.proofs.FreshPlans.{fresh_plan}
 use Rattle.od_sync.proofs.HadThen.{had-looks, planned-had}
@@ -65,6 +65,7 @@ use Rattle.od_sync.proofs.Growth.{answered, asked-answered, asked-transfers, cou
 use Rattle.od_sync.proofs.LooksFound.{unlike-then, until-append, until-makes, until-scan, whole-makes, whole-scan, whole-then, within-done, within-look}
 use Rattle.od_sync.proofs.Made.{makes-steps}
 use Rattle.od_sync.proofs.PlannedKinds.{IsKindIn, fetches-accepted}
+use Rattle.od_sync.proofs.Sends.{asked-also}
 use Rattle.od_sync.proofs.ServedTokens.{is-served}
 use Rattle.gd_names.proofs.Streams.{rose-later}
 
@@ -421,7 +422,7 @@ ended-bad image drive more images after id last grown bad = record {
 }
 
 -- it is one look at most
-stopped-within : (token : Option (List ℕ)) (drive more : List Step) (local part : List LocalStep) (after : Option (List Step)) (local_after : Option (List LocalStep)) → AskedDelta token drive after → scan.GrownByLooks 1 local local_after
+stopped-within : {MayBeLost : Type 0} (token : Option (List ℕ)) (drive more : List Step) (local part : List LocalStep) (after : Option (List Step)) (local_after : Option (List LocalStep)) → AskedDelta MayBeLost token drive after → scan.GrownByLooks 1 local local_after
     → after ≡ Some (drive ++ more) → local_after ≡ Some (local ++ part) → IsWithin 1 more part
 stopped-within token drive more local part after local_after asked looked grown local_grown =
     let asks : asked.part ≡ more = same-more after drive asked.part more asked.grown grown in
@@ -432,14 +433,14 @@ stopped-within token drive more local part after local_after asked looked grown 
     }
 
 -- the drive was asked with the token of the image that is last
-stopped-chained : (image : Image) (drive more : List Step) (images : List Image) (after : Option (List Step)) → last_image images ≡ image → AskedDelta image.token drive after → after ≡ Some (drive ++ more)
-    → Chained (last_image images).token drive more
-stopped-chained image drive more images after last asked grown =
-    subst (λ (i : Image). Chained i.token drive more) (sym last)
-    (subst (λ (steps : List Step). Chained image.token drive steps) (same-more after drive asked.part more asked.grown grown) asked.chained)
+stopped-chained : {MayBeLost : Type 0} (image : Image) (drive more : List Step) (images : List Image) (after : Option (List Step)) → last_image images ≡ image → AskedDelta MayBeLost image.token drive after
+    → after ≡ Some (drive ++ more) → Chained MayBeLost (last_image images).token drive more
+stopped-chained {MayBeLost} image drive more images after last asked grown =
+    subst (λ (i : Image). Chained MayBeLost i.token drive more) (sym last)
+    (subst (λ (steps : List Step). Chained MayBeLost image.token drive steps) (same-more after drive asked.part more asked.grown grown) asked.chained)
 
 round-look-stopped : {drive : List Step} {local : List LocalStep} {images : List Image} {after : Option (List Step)} {local_after : Option (List LocalStep)} {images_after : Option (List Image)} (fb fn : ℕ) (image : Image) (stop : SyncStop)
-    → last_image images ≡ image → Went (IsSound image drive) drive local images after local_after images_after → scan.GrownByLooks 1 local local_after → AskedDelta image.token drive after
+    → last_image images ≡ image → Went (IsSound image drive) drive local images after local_after images_after → scan.GrownByLooks 1 local local_after → AskedDelta (stop ≡ Memory) image.token drive after
     → ((n : ℕ) → stop ≡ BadPages (item_id n) → PullsBad image.items image.token drive after n) → ((n : ℕ) → stop ≡ BadPages (item_id n) → images_after ≡ Some images)
     → (stop ≡ Unserved → EndsUnserved (Delta image.token) drive after) → RoundsTo fb fn drive local images after local_after images_after (Err stop)
 round-look-stopped {drive} {local} {images} {after} {local_after} {images_after} fb fn image stop last w looked asked bad stays unserved = record {
@@ -456,7 +457,7 @@ round-look-stopped {drive} {local} {images} {after} {local_after} {images_after}
     grew = went-grew w (λ sound. subst (λ (i : Image). IsSound i drive) last sound)
         (subst (λ (steps : List LocalStep). AllByRecursion IsLook steps) (same-more local_after local looked.part w.part looked.grown w.local_grown) looked.looks);
     within = stopped-within image.token drive w.more local w.part after local_after asked looked w.drive_grown w.local_grown;
-    chained = stopped-chained image drive w.more images after last asked w.drive_grown;
+    chained = chained-also (last_image images).token drive w.more (λ is. ap (λ s. Err s) is) (stopped-chained image drive w.more images after last asked w.drive_grown);
     chained_on = tt;
     looked = tt;
     begins = tt;
@@ -480,14 +481,16 @@ round-look-stopped {drive} {local} {images} {after} {local_after} {images_after}
 
 -- ---- the same, where the logs and images may be told
 pub rounds-stopped : {T : Type 0} (fb fn : ℕ) (image : Image) (stop : SyncStop) (before after : Option (List Step)) (local_before local_after : Option (List LocalStep)) (images_before images_after : Option (List Image))
-    → Goes (λ drive. IsSound image drive) image before after local_before local_after images_before images_after → scan.GrowsByLooks 1 local_before local_after → AsksDelta image.token before after
+    → Goes (λ drive. IsSound image drive) image before after local_before local_after images_before images_after → scan.GrowsByLooks 1 local_before local_after
+    → AsksDelta (IsErrOf {T = T} (Err stop) Memory) image.token before after
     → ((n : ℕ) → IsErrOf {T = T} (Err stop) (BadPages (item_id n)) → StopsBad image.items image.token before after n)
     → ((n : ℕ) → IsErrOf {T = T} (Err stop) (BadPages (item_id n)) → Stay images_before images_after)
     → (IsErrOf {T = T} (Err stop) Unserved → (drive : List Step) → before ≡ Some drive → EndsUnserved (Delta image.token) drive after)
     → Rounds fb fn image before after local_before local_after images_before images_after (Err stop)
 rounds-stopped {T} fb fn image stop before after local_before local_after images_before images_after goes looks asks bad stays unserved = record {
   told = λ drive local images told local_told images_told last.
-      round-look-stopped fb fn image stop last (goes.told drive local images told local_told images_told last) (looks.told local local_told) (asks.told drive told)
+      round-look-stopped fb fn image stop last (goes.told drive local images told local_told images_told last) (looks.told local local_told)
+      (asked-also image.token drive after (λ is. cc is) (asks.told drive told))
       (λ n is. (bad n (ap (λ s. Err s) is)).told drive told) (λ n is. stays n (ap (λ s. Err s) is) images images_told) (λ is. unserved (ap (λ s. Err s) is) drive told);
 }
 

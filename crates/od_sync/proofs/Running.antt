@@ -25,7 +25,7 @@ use Rattle.od_sync.specs.Looks.{AllUnlike, AreWhole, IsWithin, LastSame, found_u
 use Rattle.od_sync.specs.declared.ends.SyncStop.{SyncStop}
 use Rattle.od_sync.specs.declared.ends.SyncStop.TheVariants.{BadPages, Unserved}
 use Rattle.od_sync.specs.declared.looking.Sides.{Sides}
-use Rattle.od_sync.proofs.Chained.{chain-then, chained-all, chained-then}
+use Rattle.od_sync.proofs.Chained.{chain-then, chained-all, chained-also, chained-then}
 use Rattle.od_sync.proofs.Compares.{compared-unlike}
 use Rattle.od_sync.proofs.Growth.{answered, count-append, each-first, each-second, grew-sound, grew-then, scan-steps}
 use Rattle.od_sync.proofs.Rounding.{drive-then, images-then, local-then, met-begins, met-chained, met-chained-on, met-found-unlike, met-grew, met-looked, met-looks, met-sound, met-unlike, met-whole, met-within}
@@ -60,8 +60,8 @@ whole-on (Err stop) local p1 lmid p2 is begins first second = tt
 chained-more : (a b c : Option (List ℕ)) (drive m1 mid m2 : List Step) → mid ≡ drive ++ m1 → IsChained a drive m1 b → IsChained b mid m2 c → IsChained a drive (m1 ++ m2) c
 chained-more a b c drive m1 mid m2 is first second = chain-then a b c drive m1 m2 first (subst (λ (log : List Step). IsChained b log m2 c) is second)
 
-chained-last : (a b : Option (List ℕ)) (drive m1 mid m2 : List Step) → mid ≡ drive ++ m1 → IsChained a drive m1 b → Chained b mid m2 → Chained a drive (m1 ++ m2)
-chained-last a b drive m1 mid m2 is first second = chained-then a b drive m1 m2 first (subst (λ (log : List Step). Chained b log m2) is second)
+chained-last : {MayBeLost : Type 0} (a b : Option (List ℕ)) (drive m1 mid m2 : List Step) → mid ≡ drive ++ m1 → IsChained a drive m1 b → Chained MayBeLost b mid m2 → Chained MayBeLost a drive (m1 ++ m2)
+chained-last {MayBeLost} a b drive m1 mid m2 is first second = chained-then a b drive m1 m2 first (subst (λ (log : List Step). Chained MayBeLost b log m2) is second)
 
 chained-on : (result : Result Bool SyncStop) (a b c : Option (List ℕ)) (drive m1 mid m2 : List Step) → mid ≡ drive ++ m1 → IsChained a drive m1 b → OnOk result (IsChained b mid m2 c) → OnOk result (IsChained a drive (m1 ++ m2) c)
 chained-on (Ok settled) a b c drive m1 mid m2 is first second = chained-more a b c drive m1 mid m2 is first second
@@ -109,10 +109,10 @@ ran-more {drive} {m1} {mid} {m2} {now} {local} {p1} {lmid} {p2} {lnow} {images} 
 
 ran-settled : {drive more now : List Step} {local part lnow : List LocalStep} {images added inow : List Image} (k fb fn : ℕ) → 1 ≤ k → Rounded fb fn drive more now local part lnow images added inow (Ok None)
     → Ran k fb fn drive more now local part lnow images added inow (Ok true)
-ran-settled {more = more} {part = part} k fb fn some r = record {
+ran-settled {drive = drive} {more = more} {part = part} {images = images} k fb fn some r = record {
   grew = r.grew;
   within = within-weaker more part some r.within;
-  chained = r.chained;
+  chained = chained-also (last_image images).token drive more (λ is. absurd (cc is)) r.chained;
   chained_on = r.chained_on;
   begins = r.begins;
   whole = r.whole;
@@ -132,10 +132,10 @@ ran-settled {more = more} {part = part} k fb fn some r = record {
 
 ran-stopped : {drive more now : List Step} {local part lnow : List LocalStep} {images added inow : List Image} {stop : SyncStop} (k fb fn : ℕ) → 1 ≤ k → Rounded fb fn drive more now local part lnow images added inow (Err stop)
     → Ran k fb fn drive more now local part lnow images added inow (Err stop)
-ran-stopped {more = more} {part = part} k fb fn some r = record {
+ran-stopped {drive = drive} {more = more} {part = part} {images = images} k fb fn some r = record {
   grew = r.grew;
   within = within-weaker more part some r.within;
-  chained = r.chained;
+  chained = chained-also (last_image images).token drive more (λ is. cc is) r.chained;
   chained_on = tt;
   begins = tt;
   whole = tt;

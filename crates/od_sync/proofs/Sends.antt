@@ -5,6 +5,7 @@ use Rattle.std.proofs.lemmas.List.{append-nil}
 use Rattle.std.proofs.lemmas.List.Sums.{sum_by-cons}
 use Rattle.std.specs.List.{AllByRecursion, list_all}
 use Rattle.std.proofs.lemmas.List.Elements.{All-from_recursion}
+use Rattle.std.specs.Prelude.{IsErrOf}
 use Rattle.std.specs.Result.{IsErr, IsErrAnd}
 use Rattle.gd_item.specs.Answers.{answer_of, answer_unless, shown, reply_to, refused, delta_reply}
 use Rattle.gd_item.specs.Pages.{Asked, Past, Latest, Bad, Lost, asked, is_bad}
@@ -28,22 +29,15 @@ use Rattle.od_transfer.specs.declared.remote.AskFault.{AskFault}
 use Rattle.od_transfer.specs.declared.remote.AskFault.TheVariants as ask
 use Rattle.od_sync.specs.declared.delta.DeltaFault.{DeltaFault}
 use Rattle.od_sync.specs.declared.delta.DeltaFault.TheVariants.{LinkFault, Unserved, Memory}
+use Rattle.gd_laws.proofs.Pages.{given_for, unless-cond}
 use Rattle.od_transfer.proofs.Logs.{such-others, such-also, such-append}
 use Rattle.od_sync.specs.Chains.{Chained}
 use Rattle.od_sync.specs.Deltas.{AskedDelta, AsksDelta, IsAskedWith, is_delta, is_own_delta, is_answered_delta, is_written_token, DeltaAsks, page_in, last_heard_after, heard_step, IsSpent, Spent, Untaken, PageHeard, EndsUnserved, SendsOnce, Sent, is_last_page}
-use Rattle.od_sync.proofs.Chained.{chained-all, chain-lost, chain-page, chain-spent, last-token}
+use Rattle.od_sync.proofs.Chained.{chained-all, chained-also, chain-lost, chain-page, chain-spent, last-token}
 use Rattle.od_sync.proofs.Growth.{count-append}
 
 -- ---- what a drive answers that is asked for changes
-delta_given : State → ℕ → Asked → Reply
-delta_given state size a = cond (is_bad a) (refused (refuse 400 InvalidRequest)) (delta_reply state size a)
-
-unless-cond : (b : Bool) (r : Refusal) (state : State) (size : ℕ) (request : Request)
-    → answer_unless (cond b (Some r) None) state size request ≡ cond b (refused r) (reply_to state (after_request state Own request) size request)
-unless-cond true r state size request = refl
-unless-cond false r state size request = refl
-
-never-unserved : (state : State) (size : ℕ) (code : ErrorCode) (a : Asked) → reply.Refused 503 code ≡ cond (is_bad a) (refused (refuse 400 InvalidRequest)) (delta_reply state size a) → ⊥
+never-unserved : (state : State) (size : ℕ) (code : ErrorCode) (a : Asked) → reply.Refused 503 code ≡ given_for state size a → ⊥
 never-unserved state size code (Past position start) is = cc is
 never-unserved state size code Latest is = cc is
 never-unserved state size code Bad is = grind (arith, is)
@@ -208,7 +202,8 @@ sent-unheard request fault before after written is asks =
     record { last_page = omega arith; ok = λ old told. let u = asks.failed (cc is) old told in spent-unheard request old u.others after written u.by_others u.grown; err = tt }
 
 -- one that was given up where memory ran out
-untaken-none : (request : Request) (sends : ℕ) (old part : List Step) (after : Option (List Step)) → OwnAre (IsSpent request) part → count_by is_own_delta part ≤ sends → after ≡ Some (old ++ part) → Untaken request sends old after
+untaken-none : {MayBeLost : Type 0} (request : Request) (sends : ℕ) (old part : List Step) (after : Option (List Step)) → OwnAre (IsSpent request) part → count_by is_own_delta part ≤ sends → after ≡ Some (old ++ part)
+    → Untaken MayBeLost request sends old after
 untaken-none request sends old part after such sent grown = record {
   part = part;
   such = such;
@@ -219,7 +214,7 @@ untaken-none request sends old part after such sent grown = record {
 }
 
 spent-one : (request : Request) (old part : List Step) (after : Option (List Step)) (served heard : Bool) → ByOthers part → (heard ≡ true → served ≡ false)
-    → after ≡ Some ((old ++ part) ++ Ask Own request served heard ∷ []) → Untaken request 1 old after
+    → after ≡ Some ((old ++ part) ++ Ask Own request served heard ∷ []) → Untaken (Unit {0}) request 1 old after
 spent-one request old part after served heard by spent grown =
     untaken-none request 1 old (part ++ Ask Own request served heard ∷ []) after
     (such-append (IsSpent request) part (Ask Own request served heard ∷ []) (such-others (IsSpent request) part by) ((refl, spent), tt))
@@ -227,12 +222,12 @@ spent-one request old part after served heard by spent grown =
     (grown ∙ ap (λ log. Some log) (append_assoc old part (Ask Own request served heard ∷ [])))
 
 untaken-one : (request : Request) (old part : List Step) (after : Option (List Step)) (served heard : Bool) → ByOthers part
-    → after ≡ Some ((old ++ part) ++ Ask Own request served heard ∷ []) → Untaken request 1 old after
+    → after ≡ Some ((old ++ part) ++ Ask Own request served heard ∷ []) → Untaken (Unit {0}) request 1 old after
 untaken-one request old part after true true by grown = record {
   part = part;
   such = such-others (IsSpent request) part by;
   lost = Ask Own request true true ∷ [];
-  lost_is = inr refl;
+  lost_is = inr (tt, refl);
   sent = one-more is_own_delta part (Ask Own request true true) 0 (others-sent part 0 by);
   grown = grown ∙ ap (λ log. Some log) (append_assoc old part (Ask Own request true true ∷ []));
 }
@@ -240,7 +235,7 @@ untaken-one request old part after true false by grown = spent-one request old p
 untaken-one request old part after false heard by grown = spent-one request old part after false heard by (λ _. refl) grown
 
 untaken-given-up : (request : Request) (old part : List Step) (after : Option (List Step)) → IsWritten request → ByOthers part
-    → (after ≡ Some (old ++ part)) ⊎ ((heard : Bool) × StandsLast request heard (old ++ part) after) → Untaken request 1 old after
+    → (after ≡ Some (old ++ part)) ⊎ ((heard : Bool) × StandsLast request heard (old ++ part) after) → Untaken (Unit {0}) request 1 old after
 untaken-given-up request old part after written by (inl not_there) = untaken-none request 1 old part after (such-others (IsSpent request) part by) (others-sent part 1 by) not_there
 untaken-given-up request old part after written by (inr last) =
     let there = stands-as request last.0 (old ++ part) after written last.1 in untaken-one request old part after there.0 last.0 by there.1
@@ -289,18 +284,21 @@ page-more request n a page old middle after few first later =
       page_is = second.page_is ∙ ap (λ log. answer_of log second.size request) (append_assoc old first.part second.part);
     }
 
-spent-thrice : (request : Request) (n a : ℕ) (old : List Step) (after : Option (List Step)) → n ≤ 3 → Spent request n a old after → Untaken request 3 old after
+spent-thrice : {MayBeLost : Type 0} (request : Request) (n a : ℕ) (old : List Step) (after : Option (List Step)) → n ≤ 3 → Spent request n a old after → Untaken MayBeLost request 3 old after
 spent-thrice request n a old after few s = untaken-none request 3 old s.part after s.such (omega (arith, s.sent, few)) s.grown
 
-untaken-more : (request : Request) (n a : ℕ) (old : List Step) (middle after : Option (List Step)) → n < 3 → Spent request n a old middle
-    → ((now : List Step) → middle ≡ Some now → Untaken request 1 now after) → Untaken request 3 old after
-untaken-more request n a old middle after few first later =
+untaken-more : {MayBeLost : Type 0} (request : Request) (n a : ℕ) (old : List Step) (middle after : Option (List Step)) → n < 3 → MayBeLost → Spent request n a old middle
+    → ((now : List Step) → middle ≡ Some now → Untaken (Unit {0}) request 1 now after) → Untaken MayBeLost request 3 old after
+untaken-more request n a old middle after few lost first later =
     let second = later (old ++ first.part) first.grown in
     record {
       part = first.part ++ second.part;
       such = such-append (IsSpent request) first.part second.part first.such second.such;
       lost = second.lost;
-      lost_is = second.lost_is;
+      lost_is = elim second.lost_is [
+        | inl is ↦ inl is
+        | inr is ↦ inr (lost, is.1)
+      ];
       sent = omega (arith, few, first.sent, second.sent, count-append is_own_delta (first.part ++ second.part) second.lost, count-append is_own_delta first.part second.part, count-append is_own_delta second.part second.lost);
       grown = second.grown
           ∙ ap (λ log. Some log) (append_assoc old first.part (second.part ++ second.lost))
@@ -335,7 +333,7 @@ asks-stopped request n a result before middle after e few memory first once = su
   last_page = tt;
   ok = tt;
   unserved = λ is. absurd (cc is);
-  err = λ old told. untaken-more request n a old middle after few (first old told) (λ now is. once.err now is);
+  err = λ old told. untaken-more request n a old middle after few refl (first old told) (λ now is. once.err now is);
 })
 
 pub asks-failed : (request : Request) (n a : ℕ) (before after : Option (List Step)) → n ≤ 3 → ((old : List Step) → before ≡ Some old → Spent request n a old after) → DeltaAsks request before after (Err LinkFault)
@@ -365,20 +363,12 @@ token-written (Some text) is =
     let parts = and_parts (nat_lt 0 (length text)) (list_all is_token_byte text) is in
     (ltb-true 0 (length text) parts.0, All-from_recursion (λ (b : ℕ). is_token_byte b ≡ true) text (each-true is_token_byte text parts.1))
 
--- one that it cannot: nothing is asked
-pub asks-nothing : (request : Request) (log : Option (List Step)) → DeltaAsks request log log (Err Memory)
-asks-nothing request log = record {
-  last_page = tt;
-  ok = tt;
-  unserved = λ is. absurd (cc is);
-  err = λ old told. untaken-none request 3 old [] log tt (omega arith) (told ∙ ap (λ steps. Some steps) (sym (append-nil old)));
-}
-
 -- whatever the end, the requests were for these changes
 asked-with : (token : Option (List ℕ)) (sent : Request) (served heard : Bool) → IsSpent (Delta token) sent served heard → IsAskedWith token sent served heard
 asked-with token sent served heard spent = spent.0
 
-page-asked : (token : Option (List ℕ)) (old : List Step) (after : Option (List Step)) (page : Page) → is_last_link page.link ≡ true → PageHeard 2 (Delta token) old after page → AskedDelta token old after
+page-asked : {MayBeLost : Type 0} (token : Option (List ℕ)) (old : List Step) (after : Option (List Step)) (page : Page) → is_last_link page.link ≡ true → PageHeard 2 (Delta token) old after page
+    → AskedDelta MayBeLost token old after
 page-asked token old after page is_last h = record {
   part = h.part ++ Ask Own (Delta token) true true ∷ [];
   such = such-append (IsAskedWith token) h.part (Ask Own (Delta token) true true ∷ []) (such-also (IsSpent (Delta token)) (IsAskedWith token) (asked-with token) h.part h.such) (refl, tt);
@@ -390,25 +380,26 @@ page-asked token old after page is_last h = record {
 }
 
 -- what was not taken was asked for too
-abbrev IsLost : Option (List ℕ) → List Step → Type 0
-IsLost token lost = (lost ≡ []) ⊎ (lost ≡ Ask Own (Delta token) true true ∷ [])
+abbrev IsLost : Type 0 → Option (List ℕ) → List Step → Type 0
+IsLost MayBeLost token lost = (lost ≡ []) ⊎ (MayBeLost × (lost ≡ Ask Own (Delta token) true true ∷ []))
 
-lost-asked : (token : Option (List ℕ)) (lost : List Step) → IsLost token lost → OwnAre (IsAskedWith token) lost
+lost-asked : {MayBeLost : Type 0} (token : Option (List ℕ)) (lost : List Step) → IsLost MayBeLost token lost → OwnAre (IsAskedWith token) lost
 lost-asked token lost (inl is) = subst (OwnAre (IsAskedWith token)) (sym is) tt
-lost-asked token lost (inr is) = subst (OwnAre (IsAskedWith token)) (sym is) (refl, tt)
+lost-asked token lost (inr is) = subst (OwnAre (IsAskedWith token)) (sym is.1) (refl, tt)
 
-lost-answered : (token : Option (List ℕ)) (lost : List Step) → IsLost token lost → count_by is_answered_delta lost ≤ 1
+lost-answered : {MayBeLost : Type 0} (token : Option (List ℕ)) (lost : List Step) → IsLost MayBeLost token lost → count_by is_answered_delta lost ≤ 1
 lost-answered token lost (inl is) = subst (λ (steps : List Step). count_by is_answered_delta steps ≤ 1) (sym is) (omega arith)
 lost-answered token lost (inr is) =
-    subst (λ (steps : List Step). count_by is_answered_delta steps ≤ 1) (sym is) (one-more is_answered_delta [] (Ask Own (Delta token) true true) 0 (omega arith))
+    subst (λ (steps : List Step). count_by is_answered_delta steps ≤ 1) (sym is.1) (one-more is_answered_delta [] (Ask Own (Delta token) true true) 0 (omega arith))
 
-lost-chained : (token : Option (List ℕ)) (drive spent lost : List Step) → OwnAre (IsSpent (Delta token)) spent → IsLost token lost → Chained token drive (spent ++ lost)
-lost-chained token drive spent lost such (inl is) =
-    subst (λ (steps : List Step). Chained token drive (spent ++ steps)) (sym is)
-    (subst (λ (steps : List Step). Chained token drive steps) (sym (append-nil spent)) (chained-all token token drive spent (chain-spent token drive spent such)))
-lost-chained token drive spent lost such (inr is) = subst (λ (steps : List Step). Chained token drive (spent ++ steps)) (sym is) (chain-lost token drive spent such)
+lost-chained : {MayBeLost : Type 0} (token : Option (List ℕ)) (drive spent lost : List Step) → OwnAre (IsSpent (Delta token)) spent → IsLost MayBeLost token lost → Chained MayBeLost token drive (spent ++ lost)
+lost-chained {MayBeLost} token drive spent lost such (inl is) =
+    subst (λ (steps : List Step). Chained MayBeLost token drive (spent ++ steps)) (sym is)
+    (subst (λ (steps : List Step). Chained MayBeLost token drive steps) (sym (append-nil spent)) (chained-all token token drive spent (chain-spent token drive spent such)))
+lost-chained {MayBeLost} token drive spent lost such (inr is) =
+    subst (λ (steps : List Step). Chained MayBeLost token drive (spent ++ steps)) (sym is.1) (chain-lost token drive spent is.0 such)
 
-untaken-asked : (token : Option (List ℕ)) (old : List Step) (after : Option (List Step)) → Untaken (Delta token) 3 old after → AskedDelta token old after
+untaken-asked : {MayBeLost : Type 0} (token : Option (List ℕ)) (old : List Step) (after : Option (List Step)) → Untaken MayBeLost (Delta token) 3 old after → AskedDelta MayBeLost token old after
 untaken-asked token old after u = record {
   part = u.part ++ u.lost;
   such = such-append (IsAskedWith token) u.part u.lost (such-also (IsSpent (Delta token)) (IsAskedWith token) (asked-with token) u.part u.such) (lost-asked token u.lost u.lost_is);
@@ -419,7 +410,7 @@ untaken-asked token old after u = record {
 }
 
 -- nothing is sent
-none-untaken : (request : Request) (old : List Step) (log : Option (List Step)) → log ≡ Some old → Untaken request 3 old log
+none-untaken : {MayBeLost : Type 0} (request : Request) (old : List Step) (log : Option (List Step)) → log ≡ Some old → Untaken MayBeLost request 3 old log
 none-untaken request old log told = untaken-none request 3 old [] log tt (omega arith) (told ∙ ap (λ steps. Some steps) (sym (append-nil old)))
 
 pub asks-none : (request : Request) (log : Option (List Step)) → DeltaAsks request log log (Err Memory)
@@ -430,9 +421,23 @@ asks-none request log = record {
   err = λ old told. none-untaken request old log told;
 }
 
-pub none-asked : (token : Option (List ℕ)) (log : Option (List Step)) → AsksDelta token log log
+pub none-asked : {MayBeLost : Type 0} (token : Option (List ℕ)) (log : Option (List Step)) → AsksDelta MayBeLost token log log
 none-asked token log = record { told = λ old told. untaken-asked token old log (none-untaken (Delta token) old log told) }
 
-pub delta-asks : (token : Option (List ℕ)) (result : Result Page DeltaFault) (before after : Option (List Step)) → DeltaAsks (Delta token) before after result → AsksDelta token before after
+pub delta-asks : (token : Option (List ℕ)) (result : Result Page DeltaFault) (before after : Option (List Step)) → DeltaAsks (Delta token) before after result → AsksDelta (IsErrOf result Memory) token before after
 delta-asks token (Ok page) before after asks = record { told = λ old told. page-asked token old after page asks.last_page (asks.ok old told) }
 delta-asks token (Err fault) before after asks = record { told = λ old told. untaken-asked token old after (asks.err old told) }
+
+-- the same requests, where an answer may be lost for another cause
+pub asked-also : {P Q : Type 0} (token : Option (List ℕ)) (old : List Step) (after : Option (List Step)) → (P → Q) → AskedDelta P token old after → AskedDelta Q token old after
+asked-also token old after so a = record {
+  part = a.part;
+  such = a.such;
+  sent = a.sent;
+  answered = a.answered;
+  chained = chained-also token old a.part so a.chained;
+  grown = a.grown;
+}
+
+pub asks-also : {P Q : Type 0} (token : Option (List ℕ)) (before after : Option (List Step)) → (P → Q) → AsksDelta P token before after → AsksDelta Q token before after
+asks-also token before after so asks = record { told = λ old told. asked-also token old after so (asks.told old told) }

@@ -34,8 +34,8 @@ servable-later drive more token asked own has =
     subst (λ (state : State). is_servable state (Delta token) ≡ true) (sym (own_requests_keep drive more asked own)) has
 
 -- ---- the parts of a look
-pub serves-pull : (image : Image) (before after : Option (List Step)) (images_before images_after : Option (List Image)) → AsksDelta image.token before after → Stay images_before images_after
-    → Serves image before after images_before images_after
+pub serves-pull : {MayBeLost : Type 0} (image : Image) (before after : Option (List Step)) (images_before images_after : Option (List Image)) → AsksDelta MayBeLost image.token before after
+    → Stay images_before images_after → Serves image before after images_before images_after
 serves-pull image before after images_before images_after asks stay = record {
   told = λ drive images told images_told last.
       let g = asks.told drive told in

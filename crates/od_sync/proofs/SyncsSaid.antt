@@ -34,6 +34,7 @@ use Rattle.od_sync.specs.Syncs.{HasServable, IsQuiet, Syncs, SyncsTo, SyncsTold,
 use Rattle.od_sync.specs.declared.ends.SyncEnd.TheVariants as end
 use Rattle.od_sync.specs.declared.ends.SyncStop.{SyncStop}
 use Rattle.od_sync.specs.declared.ends.SyncStop.TheVariants as stop
+use Rattle.od_sync.proofs.Chained.{chained-also}
 use Rattle.od_sync.proofs.Growth.{same-more}
 use Rattle.od_transfer.proofs.CountsRose.{rose-some}
 
@@ -164,7 +165,7 @@ syncs {drive} {more} {local} {part} {images} {added} before now result ran cause
   unsettled_is_unlike = λ is. ran.unsettled (ended-unsettled result is);
   makes_what_the_drive_had = ran.grew.had;
   within_three_looks = ran.within;
-  asks_with_the_last_token = ran.chained;
+  asks_with_the_last_token = chained-also (last_image images).token drive more (λ is. ap (λ r. end_of r) is) ran.chained;
   keeps_the_last_token = λ is. on-end result (IsChained (last_image images).token drive more (last_image (images ++ added)).token) is ran.chained_on;
   settled_looks = λ is. ran.found_same (ended-settled result is);
   unsettled_looks = λ is. ran.found_unlike (ended-unsettled result is);

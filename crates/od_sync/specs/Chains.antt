@@ -27,9 +27,9 @@ abbrev pub IsChained : Option (List ℕ) → List Step → List Step → Option 
 IsChained token drive [] last = token ≡ last
 IsChained token drive (step ∷ more) last = (next : Option (List ℕ)) × AsksWith token drive step next × IsChained next (drive ++ step ∷ []) more last
 
--- to whichever that is; where memory ran out, one more request may have been answered with it, whose answer was not taken
-pub record Chained (token : Option (List ℕ)) (drive more : List Step) : Type 0 where
+-- to whichever that is; where it may be lost, one more request was answered with it, whose answer was not taken
+pub record Chained (MayBeLost : Type 0) (token : Option (List ℕ)) (drive more : List Step) : Type 0 where
   pub last : Option (List ℕ)
   pub taken : List Step
   pub chained : IsChained token drive taken last
-  pub rest : (more ≡ taken) ⊎ (more ≡ taken ++ Ask Own (Delta last) true true ∷ [])
+  pub rest : (more ≡ taken) ⊎ (MayBeLost × (more ≡ taken ++ Ask Own (Delta last) true true ∷ []))

@@ -16,7 +16,7 @@ use Rattle.gd_item.specs.declared.step.Who.TheVariants.{Own, Other}
 use Rattle.od_transfer.specs.Asking.{OwnAre, RoseBy, is_last_link}
 use Rattle.od_sync.specs.Chains.{Chained}
 use Rattle.od_sync.specs.declared.delta.DeltaFault.{DeltaFault}
-use Rattle.od_sync.specs.declared.delta.DeltaFault.TheVariants.{LinkFault, Unserved}
+use Rattle.od_sync.specs.declared.delta.DeltaFault.TheVariants.{LinkFault, Unserved, Memory}
 
 -- whether a request asks for changes
 abbrev pub is_delta : Request → Bool
@@ -84,12 +84,12 @@ pub record EndsUnserved (request : Request) (old : List Step) (after : Option (L
   pub grown : after ≡ Some (old ++ part)
   pub last : (before : Option Step) → last_heard_after before part ≡ Some (Ask Own request false true)
 
--- so many sends at most without a page that was taken: such sends, and then, where memory ran out, perhaps one that was answered
-pub record Untaken (request : Request) (sends : ℕ) (old : List Step) (after : Option (List Step)) : Type 0 where
+-- so many sends at most without a page that was taken: such sends, and then, where one may be lost, perhaps one that was answered
+pub record Untaken (MayBeLost : Type 0) (request : Request) (sends : ℕ) (old : List Step) (after : Option (List Step)) : Type 0 where
   pub part : List Step
   pub such : OwnAre (IsSpent request) part
   pub lost : List Step
-  pub lost_is : (lost ≡ []) ⊎ (lost ≡ Ask Own request true true ∷ [])
+  pub lost_is : (lost ≡ []) ⊎ (MayBeLost × (lost ≡ Ask Own request true true ∷ []))
   pub sent : count_by is_own_delta (part ++ lost) ≤ sends
   pub grown : after ≡ Some (old ++ (part ++ lost))
 
@@ -97,7 +97,7 @@ pub record DeltaAsks (request : Request) (before after : Option (List Step)) (re
   pub last_page : IfOk result (λ page. is_last_link page.link ≡ true)
   pub ok : IfOk result (λ page. (old : List Step) → before ≡ Some old → PageHeard 2 request old after page)
   pub unserved : IsErrOf result Unserved → (old : List Step) → before ≡ Some old → EndsUnserved request old after
-  pub err : OnErr result ((old : List Step) → before ≡ Some old → Untaken request 3 old after)
+  pub err : OnErr result ((old : List Step) → before ≡ Some old → Untaken (IsErrOf result Memory) request 3 old after)
 
 -- the counts never fall, and each end has its cause
 pub record HasDeltaCause (faults_before faults_now answers_before answers_now row_now : ℕ) (result : Result Page DeltaFault) : Type 0 where
@@ -118,10 +118,11 @@ abbrev pub is_last_page : Result Page ℕ → Type 0
 is_last_page (Ok page) = is_last_link page.link ≡ true
 is_last_page (Err replies) = replies ≤ 1
 
+-- an error is want of memory alone
 pub record SendsOnce (request : Request) (before after : Option (List Step)) {E : Type 0} (result : Result (Result Page ℕ) E) : Type 0 where
   pub last_page : IfOk result is_last_page
   pub ok : IfOk result (λ sent. (old : List Step) → before ≡ Some old → Sent request old after sent)
-  pub err : OnErr result ((old : List Step) → before ≡ Some old → Untaken request 1 old after)
+  pub err : OnErr result ((old : List Step) → before ≡ Some old → Untaken (Unit {0}) request 1 old after)
 
 -- so many sends without a page, with so many replies
 pub record HasNoPage (sends replies faults_before faults_now answers_before answers_now row_before row_now : ℕ) : Type 0 where
@@ -140,17 +141,18 @@ pub record HasSendCause (faults_before faults_now answers_before answers_now row
   pub answers_later : answers_before ≤ answers_now
   pub sent : IfOk result (SentCause faults_before faults_now answers_before answers_now row_before row_now)
 
--- requests for changes since a token, or for everything: three at most, of which one at most is answered
+-- requests for changes since a token, or for everything: three at most, of which one at most is answered; its answer is taken,
+-- unless it may be lost
 abbrev pub IsAskedWith : Option (List ℕ) → Request → Bool → Bool → Type 0
 IsAskedWith token request served heard = request ≡ Delta token
 
-pub record AskedDelta (token : Option (List ℕ)) (old : List Step) (after : Option (List Step)) : Type 0 where
+pub record AskedDelta (MayBeLost : Type 0) (token : Option (List ℕ)) (old : List Step) (after : Option (List Step)) : Type 0 where
   pub part : List Step
   pub such : OwnAre (IsAskedWith token) part
   pub sent : count_by is_own_delta part ≤ 3
   pub answered : count_by is_answered_delta part ≤ 1
-  pub chained : Chained token old part
+  pub chained : Chained MayBeLost token old part
   pub grown : after ≡ Some (old ++ part)
 
-pub record AsksDelta (token : Option (List ℕ)) (before after : Option (List Step)) : Type 0 where
-  pub told : (old : List Step) → before ≡ Some old → AskedDelta token old after
+pub record AsksDelta (MayBeLost : Type 0) (token : Option (List ℕ)) (before after : Option (List Step)) : Type 0 where
+  pub told : (old : List Step) → before ≡ Some old → AskedDelta MayBeLost token old after

@@ -36,7 +36,7 @@ use Rattle.od_sync.specs.Syncs.{AreSame, EndedBad, IsFromDrive, since_listed}
 use Rattle.od_sync.specs.declared.ends.SyncEnd.{SyncEnd}
 use Rattle.od_sync.specs.declared.ends.SyncEnd.TheVariants.{Settled, Unsettled}
 use Rattle.od_sync.specs.declared.ends.SyncStop.{SyncStop}
-use Rattle.od_sync.specs.declared.ends.SyncStop.TheVariants.{BadPages, Unserved}
+use Rattle.od_sync.specs.declared.ends.SyncStop.TheVariants.{BadPages, Memory, Unserved}
 use Rattle.od_sync.specs.declared.looking.Sides.{Sides}
 use Rattle.od_sync.specs.declared.planning.Plan.{Plan}
 
@@ -81,7 +81,7 @@ pub record Rounded (faults_before faults_now : ℕ) (drive more drive_now : List
     (result : Result (Option Image) SyncStop) : Type 0 where
   pub grew : Grew drive more drive_now local part local_now images added images_now
   pub within : IsWithin 1 more part
-  pub chained : Chained (last_image images).token drive more
+  pub chained : Chained (result ≡ Err Memory) (last_image images).token drive more
   pub chained_on : OnOk result (IsChained (last_image images).token drive more (last_image images_now).token)
   pub looked : OnOk result (Looked 1 more part)
   pub begins : OnOk result (found_until local part ≡ [])
@@ -121,7 +121,7 @@ pub record Ran (rounds faults_before faults_now : ℕ) (drive more drive_now : L
     (result : Result Bool SyncStop) : Type 0 where
   pub grew : Grew drive more drive_now local part local_now images added images_now
   pub within : IsWithin rounds more part
-  pub chained : Chained (last_image images).token drive more
+  pub chained : Chained (result ≡ Err Memory) (last_image images).token drive more
   pub chained_on : OnOk result (IsChained (last_image images).token drive more (last_image images_now).token)
   pub begins : OnOk result (found_until local part ≡ [])
   pub whole : OnOk result (AreWhole local part)

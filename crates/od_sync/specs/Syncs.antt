@@ -106,7 +106,7 @@ pub record Syncs (before now : Counts) (drive more : List Step) (local part : Li
       → AreSame (local ++ part) (drive ++ more) → ⊥
   pub makes_what_the_drive_had : IsSound (last_image images) drive → AllByRecursion (IsFromDrive drive more) part
   pub within_three_looks : IsWithin 3 more part
-  pub asks_with_the_last_token : Chained (last_image images).token drive more
+  pub asks_with_the_last_token : Chained (end ≡ Memory) (last_image images).token drive more
   pub keeps_the_last_token : (end ≡ Settled) ⊎ (end ≡ Unsettled) → IsChained (last_image images).token drive more (last_image (images ++ added)).token
   pub settled_looks : end ≡ Settled → IsSound (last_image images) drive → LastSame drive more local part
   pub unsettled_looks : end ≡ Unsettled → IsSound (last_image images) drive → AllUnlike 3 drive more local part

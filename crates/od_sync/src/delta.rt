@@ -1,4 +1,4 @@
-ghost use Rattle.std.specs.Prelude.{◌≡◌, ◌&&◌, ◌∷◌, [], true, length, nat_lt, Some, None, IfOk, IfErr};
+ghost use Rattle.std.specs.Prelude.{◌≡◌, ◌&&◌, ◌∷◌, [], true, length, nat_lt, Some, None, IfOk, IfErr, IsErrOf};
 ghost use Rattle.std.specs.List.{list_all};
 ghost use Rattle.gd_item.specs.Written.{IsWritten, is_token_byte};
 ghost use Rattle.od_transfer.specs.Asking.{is_last_link, may_answer_delta};
@@ -139,7 +139,7 @@ pub fn ask_delta<R: Remote>(
     token: Option<Text>,
 ) -> Result<Page, DeltaFault>
     ensures log { DeltaAsks (Request.Delta token) (R.log remote.old) (R.log remote.new) result }
-    ensures asks { AsksDelta token (R.log remote.old) (R.log remote.new) }
+    ensures asks { AsksDelta (IsErrOf result DeltaFault.Memory) token (R.log remote.old) (R.log remote.new) }
     ensures cause { HasDeltaCause (R.faults remote.old) (R.faults remote.new) (R.answers remote.old) (R.answers remote.new) (R.in_row remote.new) result }
     ensures undisturbed { Undisturbed (R.undisturbed remote.old) (R.undisturbed remote.new) (R.log remote.old) (R.log remote.new) }
     ensures no_faults { R.undisturbed remote.old ≡ true → MayBeServed (Request.Delta token) (R.log remote.old) → R.faults remote.new ≡ R.faults remote.old }

@@ -76,7 +76,7 @@ pub fn look<R: Remote, T: Tree, K: Keeper>(
     ensures goes { Goes (λ drive. IsSound image drive) image (R.log remote.old) (R.log remote.new) (T.log tree.old) (T.log tree.new) (K.images keeper.old) (K.images keeper.new) }
     ensures meets { IfOk result (λ sides. Meets image sides (R.log remote.old) (R.log remote.new) (T.log tree.old) (T.log tree.new) (K.images keeper.old) (K.images keeper.new)) }
     ensures looks { GrowsByLooks 1 (T.log tree.old) (T.log tree.new) }
-    ensures asks { AsksDelta image.token (R.log remote.old) (R.log remote.new) }
+    ensures asks { AsksDelta (IsErrOf result SyncStop.Memory) image.token (R.log remote.old) (R.log remote.new) }
     ensures below { IfOk result (λ sides. All (λ (entry : List (List ℕ) × Item). 0 < length entry.0) sides.remote) }
     ensures bad { (n : ℕ) → IsErrOf result (SyncStop.BadPages (item_id n)) → StopsBad image.items image.token (R.log remote.old) (R.log remote.new) n }
     ensures bad_stays { (n : ℕ) → IsErrOf result (SyncStop.BadPages (item_id n)) → Stay (K.images keeper.old) (K.images keeper.new) }

@@ -74,7 +74,7 @@ pub fn pull<R: Remote>(
     ensures fit { IfOk result (λ view. AllFit (nodes view.items)) }
     ensures bad { (n : ℕ) → IsErrOf result (PullStop.BadPages (item_id n)) → StopsBad items token (R.log remote.old) (R.log remote.new) n }
     ensures unserved { IsErrOf result PullStop.Unserved → StopsUnserved token (R.log remote.old) (R.log remote.new) }
-    ensures asks { AsksDelta token (R.log remote.old) (R.log remote.new) }
+    ensures asks { AsksDelta (IsErrOf result PullStop.Memory) token (R.log remote.old) (R.log remote.new) }
     ensures cause { HasPullCause (R.faults remote.old) (R.faults remote.new) (R.answers remote.old) (R.answers remote.new) (R.in_row remote.new) result }
     ensures undisturbed { Undisturbed (R.undisturbed remote.old) (R.undisturbed remote.new) (R.log remote.old) (R.log remote.new) }
     ensures no_faults { R.undisturbed remote.old ≡ true → MayBeServed (Delta token) (R.log remote.old) → R.faults remote.new ≡ R.faults remote.old }

@@ -54,7 +54,7 @@ fn pull_over<R: Remote>(
     ensures pulled { IfOk result (λ view. Pulls image.now.items image.now.token (R.log remote.old) (R.log remote.new) view) }
     ensures bad { (n : ℕ) → IsErrOf result (PullStop.BadPages (item_id n)) → StopsBad image.now.items image.now.token (R.log remote.old) (R.log remote.new) n }
     ensures unserved { IsErrOf result PullStop.Unserved → StopsUnserved image.now.token (R.log remote.old) (R.log remote.new) }
-    ensures asks { AsksDelta image.now.token (R.log remote.old) (R.log remote.new) }
+    ensures asks { AsksDelta (IsErrOf result PullStop.Memory) image.now.token (R.log remote.old) (R.log remote.new) }
     ensures cause { HasPullCause (R.faults remote.old) (R.faults remote.new) (R.answers remote.old) (R.answers remote.new) (R.in_row remote.new) result }
     ensures undisturbed { remote_alone.Undisturbed (R.undisturbed remote.old) (R.undisturbed remote.new) (R.log remote.old) (R.log remote.new) }
     ensures no_faults { R.undisturbed remote.old ≡ true → remote_alone.MayBeServed (Delta image.now.token) (R.log remote.old) → R.faults remote.new ≡ R.faults remote.old }
@@ -93,7 +93,7 @@ pub(crate) fn receive<R: Remote, K: Keeper>(
     ensures below { IfOk result (λ received. All (λ (entry : List (List ℕ) × Item). 0 < length entry.0) received.remote) }
     ensures bad { (n : ℕ) → IsErrOf result (SyncStop.BadPages (item_id n)) → StopsBad image.now.items image.now.token (R.log remote.old) (R.log remote.new) n }
     ensures bad_stays { (n : ℕ) → IsErrOf result (SyncStop.BadPages (item_id n)) → Stay (K.images keeper.old) (K.images keeper.new) }
-    ensures asks { AsksDelta image.now.token (R.log remote.old) (R.log remote.new) }
+    ensures asks { AsksDelta (IsErrOf result SyncStop.Memory) image.now.token (R.log remote.old) (R.log remote.new) }
     ensures unserved { IsErrOf result SyncStop.Unserved → (drive : List Step) → R.log remote.old ≡ Some drive → EndsUnserved (Delta image.now.token) drive (R.log remote.new) }
     ensures serves { Serves image.now (R.log remote.old) (R.log remote.new) (K.images keeper.old) (K.images keeper.new) }
     ensures adds { IfOk result (λ received. AddsImage image.now received.image (K.images keeper.old) (K.images keeper.new)) }

@@ -1,6 +1,8 @@
 use Rattle.std.proofs.Common.{arith}
 use Rattle.od_sync.proofs.Going.{agreed-token, goes-met, goes-scanned, meets, stays}
 use Rattle.od_sync.proofs.Looks.{looks-none, looks-weaker}
+use Rattle.od_sync.proofs.ReceivedImages.{stopped-same}
+use Rattle.od_sync.proofs.Sends.{asks-also}
 use Rattle.od_sync.proofs.ServedTokens.{leaves-agreed, serves-agreed}
 use Rattle.od_sync.proofs.looking.look.Goals as goal
 
@@ -46,3 +48,19 @@ pub returns-clause-last : goal.returns-clause-last
 returns-clause-last g c =
     leaves-agreed c.args.image c.in_ok-received.received c.in_ok-sides.sides (g.K.Keeper.images c.args.keeper.now) (g.K.Keeper.images c.receive.new.keeper) (g.K.Keeper.images c.commit_agreement.new.keeper)
     c.in_ok-received.ensures.adds c.in_ok-sides.ensures.images
+
+pub returns-in_err-received-clause-asks : goal.returns-in_err-received-clause-asks
+returns-in_err-received-clause-asks g c =
+    asks-also c.args.image.token (g.R.Remote.log c.args.remote.now) (g.R.Remote.log c.receive.new.remote) (stopped-same c.in_err-received.field-0.0 c.from_residual.result c.from_residual.ensures) c.in_err-received.ensures.asks
+
+pub returns-in_err-local-clause-asks : goal.returns-in_err-local-clause-asks
+returns-in_err-local-clause-asks g c =
+    asks-also c.args.image.token (g.R.Remote.log c.args.remote.now) (g.R.Remote.log c.receive.new.remote) (λ is. absurd (cc is)) c.in_ok-received.ensures.asks
+
+pub returns-in_err-sides-clause-asks : goal.returns-in_err-sides-clause-asks
+returns-in_err-sides-clause-asks g c =
+    asks-also c.args.image.token (g.R.Remote.log c.args.remote.now) (g.R.Remote.log c.receive.new.remote) (λ is. absurd (cc is)) c.in_ok-received.ensures.asks
+
+pub returns-clause-asks : goal.returns-clause-asks
+returns-clause-asks g c =
+    asks-also c.args.image.token (g.R.Remote.log c.args.remote.now) (g.R.Remote.log c.receive.new.remote) (λ is. absurd (cc is)) c.in_ok-received.ensures.asks

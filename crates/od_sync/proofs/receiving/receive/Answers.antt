@@ -1,5 +1,6 @@
 use Rattle.od_sync.proofs.Going.{goes-got, goes-pull, stays}
-use Rattle.od_sync.proofs.ReceivedImages.{below-root, receives, stopped-bad}
+use Rattle.od_sync.proofs.ReceivedImages.{below-root, receives, stopped-bad, stopped-memory}
+use Rattle.od_sync.proofs.Sends.{asks-also}
 use Rattle.od_sync.proofs.ServedTokens.{serves-kept, serves-pull}
 use Rattle.od_sync.proofs.receiving.receive.Goals as goal
 
@@ -46,3 +47,15 @@ returns-clause-serves g c =
     serves-kept c.args.image.now c.in_ok-received.received (g.R.Remote.log c.args.remote.now) (g.R.Remote.log c.pull_over.new.remote) (g.K.Keeper.images c.args.keeper.now) (g.K.Keeper.images c.commit_view.new.keeper) (g.K.Keeper.images c.commit_view.new.keeper)
     (receives c.args.image.now c.in_ok-received.received c.in_ok-view.view (g.R.Remote.log c.args.remote.now) (g.R.Remote.log c.pull_over.new.remote) (g.K.Keeper.images c.args.keeper.now) (g.K.Keeper.images c.commit_view.new.keeper)
     c.in_ok-view.ensures.pulled c.in_ok-received.ensures.received c.in_ok-received.ensures.images) (stays (g.K.Keeper.images c.commit_view.new.keeper))
+
+pub returns-in_err-view-clause-asks : goal.returns-in_err-view-clause-asks
+returns-in_err-view-clause-asks g c =
+    asks-also c.args.image.now.token (g.R.Remote.log c.args.remote.now) (g.R.Remote.log c.pull_over.new.remote) (stopped-memory c.in_err-view.field-0.0 c.from_residual.result c.from_residual.ensures) c.in_err-view.ensures.asks
+
+pub returns-in_err-received-clause-asks : goal.returns-in_err-received-clause-asks
+returns-in_err-received-clause-asks g c =
+    asks-also c.args.image.now.token (g.R.Remote.log c.args.remote.now) (g.R.Remote.log c.pull_over.new.remote) (λ is. absurd (cc is)) c.in_ok-view.ensures.asks
+
+pub returns-clause-asks : goal.returns-clause-asks
+returns-clause-asks g c =
+    asks-also c.args.image.now.token (g.R.Remote.log c.args.remote.now) (g.R.Remote.log c.pull_over.new.remote) (λ is. absurd (cc is)) c.in_ok-view.ensures.asks

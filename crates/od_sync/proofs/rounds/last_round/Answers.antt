@@ -23,4 +23,4 @@ returns-in-Err-clause-runs g c =
     (g.T.Tree.log c.args.tree.now) (g.T.Tree.log c.look.new.tree) (g.K.Keeper.images c.args.keeper.now) (g.K.Keeper.images c.look.new.keeper) (omega arith)
     (rounds-stopped (g.R.Remote.faults c.args.remote.now) (g.R.Remote.faults c.look.new.remote) c.args.image c.in-Err.stop (g.R.Remote.log c.args.remote.now) (g.R.Remote.log c.look.new.remote)
     (g.T.Tree.log c.args.tree.now) (g.T.Tree.log c.look.new.tree) (g.K.Keeper.images c.args.keeper.now) (g.K.Keeper.images c.look.new.keeper)
-    c.look.ensures.goes c.look.ensures.looks c.look.ensures.asks c.in-Err.ensures.bad c.in-Err.ensures.bad_stays c.in-Err.ensures.unserved)
+    c.look.ensures.goes c.look.ensures.looks c.in-Err.ensures.asks c.in-Err.ensures.bad c.in-Err.ensures.bad_stays c.in-Err.ensures.unserved)

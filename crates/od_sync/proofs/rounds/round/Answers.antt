@@ -22,7 +22,7 @@ returns-in-Err-act-clause-rounds g c =
 pub returns-in-Err-clause-rounds : goal.returns-in-Err-clause-rounds
 returns-in-Err-clause-rounds g c =
     rounds-stopped (g.R.Remote.faults c.args.remote.now) (g.R.Remote.faults c.look.new.remote) c.args.image c.in-Err.stop (g.R.Remote.log c.args.remote.now) (g.R.Remote.log c.look.new.remote) (g.T.Tree.log c.args.tree.now) (g.T.Tree.log c.look.new.tree) (g.K.Keeper.images c.args.keeper.now) (g.K.Keeper.images c.look.new.keeper)
-    c.look.ensures.goes c.look.ensures.looks c.look.ensures.asks c.in-Err.ensures.bad c.in-Err.ensures.bad_stays c.in-Err.ensures.unserved
+    c.look.ensures.goes c.look.ensures.looks c.in-Err.ensures.asks c.in-Err.ensures.bad c.in-Err.ensures.bad_stays c.in-Err.ensures.unserved
 
 pub returns-in-Ok-act-clause-serves : goal.returns-in-Ok-act-clause-serves
 returns-in-Ok-act-clause-serves g c =
