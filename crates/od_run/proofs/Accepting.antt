@@ -115,7 +115,7 @@ effects-accepted k effects (effect ∷ new) there are =
     (subst (λ versions. All-accepted versions (brought_by k (inventory effects) effect)) (sym (accepted-append new_drive effects (effect ∷ new))) (effect-accepted k effects effect later)) are
 
 -- ---- what a request brings about
-asked-same : (request : Request) (there : There) → (there_asked request there).brought ≡ there.brought
+pub asked-same : (request : Request) (there : There) → (there_asked request there).brought ≡ there.brought
 asked-same (Put at bytes behaviour condition) there = refl
 asked-same (OpenSession at name behaviour condition defer) there = refl
 asked-same request there = refl

@@ -56,7 +56,7 @@ use Rattle.od_run.specs.Worlds.{World, Event, Asked, Worked, Kept, happens, now,
 use Rattle.od_run.proofs.Goods.{good-after, good-beginning}
 use Rattle.od_run.proofs.Lasts.{last-missed}
 use Rattle.od_run.proofs.Parts.{at-gone, at-last, at-other, at-same, at-without, grown, grown_at}
-use Rattle.od_run.proofs.Uploading.{new-at, none-at, number-apart, openers-grow, state-next}
+use Rattle.od_run.proofs.Uploading.{effects-sending, new-at, none-at, number-apart, openers-grow, state-next}
 
 -- ---- a put over an item
 only-one : (p : Bool) → (false || (p || false) || false) ≡ true → p ≡ true
@@ -237,10 +237,6 @@ opens-added : (asked : List Step) (state : State) (sending : List Sending) (new 
 opens-added asked state sending new None so opened = so
 opens-added asked state sending new (Some found) so opened = λ session bytes is.
     added-if (nat_eq new session) asked state new session found bytes (sent_as sending session) refl opened (so session bytes) is
-
-effects-sending : (k : Known) (held : Inventory) (effects : List Effect) (there : There) → (after_effects k held effects there).sending ≡ there.sending
-effects-sending k held [] there = refl
-effects-sending k held (effect ∷ effects) there = refl
 
 opens-brought : (w : World) (k : Known) (request : Request) (there : There) → Good w k → MayRequest k request → Opens (last_asked w.drive) (after_request (state_of w.drive) Own request) there.sending
     → Opens (last_asked w.drive) (after_request (state_of w.drive) Own request) (there_brought (state_of w.drive) k request there).sending

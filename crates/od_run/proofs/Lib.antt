@@ -2,6 +2,7 @@ pub mod Accepting
 pub mod Among
 pub mod Chaining
 pub mod Conditions
+pub mod Falling
 pub mod Feeding
 pub mod Goods
 pub mod Holding

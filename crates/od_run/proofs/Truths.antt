@@ -35,6 +35,7 @@ use Rattle.od_run.specs.Good.{AreSound, Good, IfPulled, IsFeedOf, IsPulledAt}
 use Rattle.od_run.specs.Knowing.{Here, Known, Path, There, after_effects, after_listed, agreed_bytes, agreed_item, at_known_path, begins, brought_by, child_path, here_after, known_path, learn, stands, there_after, there_asked, there_brought, there_heard}
 use Rattle.od_run.specs.Truths.{AgreedOnce, BroughtOnce, HadOnce, IsNamed, ReadOnce, StoodOnce, WasSo, WereSo, made_of}
 use Rattle.od_run.specs.Worlds.{World, Event, Asked, Worked, Kept, happens, now}
+use Rattle.od_run.proofs.Accepting.{asked-same}
 use Rattle.od_run.proofs.Among.{among-head, of-each}
 use Rattle.od_run.proofs.Goods.{good-after, good-beginning}
 
@@ -176,11 +177,6 @@ module _ (drive : List Step) (k : Known) (request : Request) where
   effects-brought [] there are so = so
   effects-brought (effect ∷ effects) there are so =
       each-append IsBrought (brought_by k (held_by drive) effect) there.brought (effect-brought effect effects are) so
-
-asked-same : (request : Request) (there : There) → (there_asked request there).brought ≡ there.brought
-asked-same (Put at bytes behaviour condition) there = refl
-asked-same (OpenSession at name behaviour condition defer) there = refl
-asked-same request there = refl
 
 abbrev Owns : List Step → Request → Bool → Bool → List Step
 Owns drive request served heard = drive ++ step.Ask Own request served heard ∷ []

@@ -267,7 +267,7 @@ sends-added state known sending new None so sent = so
 sends-added state known sending new (Some found) so sent = λ session bytes is.
     added-if (nat_eq new session) state known new session found bytes (sent_as sending session) refl (sent found refl) (so session bytes) is
 
-effects-sending : (k : Known) (held : Inventory) (effects : List Effect) (there : There) → (after_effects k held effects there).sending ≡ there.sending
+pub effects-sending : (k : Known) (held : Inventory) (effects : List Effect) (there : There) → (after_effects k held effects there).sending ≡ there.sending
 effects-sending k held [] there = refl
 effects-sending k held (effect ∷ effects) there = refl
 

@@ -1,6 +1,7 @@
 pub mod Acting
 pub mod Chains
 pub mod Conditions
+pub mod Falling
 pub mod Good
 pub mod Knowing
 pub mod Moments

@@ -5,6 +5,7 @@ ghost use Rattle.od_keeper.specs.Keeping.{last_image};
 ghost use Rattle.od_run.specs.Acting.{IsLegal};
 ghost use Rattle.od_run.specs.Chains.{AreChained};
 ghost use Rattle.od_run.specs.Conditions.{UploadsUnderCondition};
+ghost use Rattle.od_run.specs.Falling.{FallOnce};
 ghost use Rattle.od_run.specs.Good.{AreSound};
 ghost use Rattle.od_run.specs.Knowing.{begins, learned};
 ghost use Rattle.od_run.specs.Moments.{since_listed};
@@ -55,6 +56,12 @@ pub fn it_uploads_readings_only()
 /// had when this client asked for changes last, and of a new one no sibling has the name, also but for case.
 pub fn its_uploads_have_their_condition()
     ensures { (w : World) (events : List Event) → AreSound w.drive w.images → IsLegal w events → UploadsUnderCondition w.drive (steps_in events) }
+{}
+
+/// Between two of its requests for changes at most one put of this client falls on a place: on an item, or on a name in a
+/// folder.
+pub fn its_uploads_fall_once()
+    ensures { (w : World) (events : List Event) → IsLegal w events → FallOnce w.drive [] (steps_in events) }
 {}
 
 /// Between two of its requests for changes this client sends a file at most once to a place, by one put or by one session,
