@@ -1,5 +1,5 @@
 -- What a look at both sides says of the folder's tree and of the drive's.
-use Rattle.std.proofs.Common.{◌≡◌, ℕ, ◌+◌, Bool, true, false, cond, ◌||◌, List, [], ◌∷◌, ◌++◌, length, map, is_none, Option, refl, ap, sym, subst, ◌∙◌}
+use Rattle.std.proofs.Common.{◌≡◌, ℕ, Bool, true, false, cond, ◌||◌, List, [], ◌∷◌, ◌++◌, length, map, Option, refl, ap, sym, subst, ◌∙◌}
 use Rattle.std.proofs.lemmas.List.{append-nil}
 use Rattle.std.specs.List.{AllByRecursion, AllZip, list_any}
 use Rattle.gd_item.specs.Records.{records_of}
@@ -18,7 +18,7 @@ use Rattle.od_transfer.specs.Asking.{OwnAre}
 use Rattle.od_transfer.specs.Fits.{IsTransfer}
 use Rattle.od_tree.specs.Calls.{edited}
 use Rattle.od_tree.specs.Collisions.{NoCollision}
-use Rattle.od_tree.specs.Local.{Local, after_step, after_steps, empty_folder, local_of, local_tree, op_refusal, tree_of_spots}
+use Rattle.od_tree.specs.Local.{Local, empty_folder, local_of, local_tree, tree_of_spots}
 use Rattle.od_tree.specs.Undisturbed.{IsOp, NoUser}
 use Rattle.od_tree.specs.declared.edit.UserEdit.{UserEdit}
 use Rattle.od_tree.specs.declared.step.LocalStep.{LocalStep}

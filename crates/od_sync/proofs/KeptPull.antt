@@ -1,7 +1,7 @@
 -- A pull over items that are kept, by what a last page gives.
-use Rattle.std.proofs.Common.{◌≡◌, ℕ, true, false, List, ◌++◌, map, Option, Some, refl}
+use Rattle.std.proofs.Common.{◌≡◌, ℕ, true, List, map, Option, Some, refl}
 use Rattle.gd_item.specs.Records.{records_of}
-use Rattle.gd_item.specs.Steps.{state_of, held_by}
+use Rattle.gd_item.specs.Steps.{held_by}
 use Rattle.gd_item.specs.Views.{uncounted, ItemsAre}
 use Rattle.gd_item.specs.declared.item.Item.{Item}
 use Rattle.gd_item.specs.declared.reply.PageLink.{PageLink}

@@ -7,12 +7,12 @@ use Rattle.std.specs.List.{AllByRecursion, list_all}
 use Rattle.std.proofs.lemmas.List.Elements.{All-from_recursion}
 use Rattle.std.specs.Prelude.{IsErrOf}
 use Rattle.std.specs.Result.{IsErr, IsErrAnd}
-use Rattle.gd_item.specs.Answers.{answer_of, answer_unless, shown, reply_to, refused, delta_reply}
+use Rattle.gd_item.specs.Answers.{answer_of, answer_unless, shown}
 use Rattle.gd_item.specs.Pages.{Asked, Past, Latest, Bad, Lost, asked, is_bad}
-use Rattle.gd_item.specs.Refused.{Refusal, refuse, refusal}
+use Rattle.gd_item.specs.Refused.{refuse, refusal}
 use Rattle.gd_item.specs.Replies.{has_status}
 use Rattle.gd_item.specs.Sessions.{State}
-use Rattle.gd_item.specs.Steps.{after_request, state_of}
+use Rattle.gd_item.specs.Steps.{state_of}
 use Rattle.gd_item.specs.Written.{IsWritten, is_token_byte}
 use Rattle.gd_item.specs.declared.fault.ErrorCode.{ErrorCode}
 use Rattle.gd_item.specs.declared.fault.ErrorCode.TheVariants.{InvalidRequest}
@@ -24,7 +24,7 @@ use Rattle.gd_item.specs.declared.request.Request.TheVariants.{Delta}
 use Rattle.gd_item.specs.declared.step.Step.{Step}
 use Rattle.gd_item.specs.declared.step.Step.TheVariants.{Ask, Event}
 use Rattle.gd_item.specs.declared.step.Who.TheVariants.{Own, Other}
-use Rattle.od_transfer.specs.Asking.{Abandoned, Asks, IsSuch, Never, ByOthers, OwnAre, Heard, StandsLast, given, may_answer, is_last_link}
+use Rattle.od_transfer.specs.Asking.{Asks, IsSuch, Never, ByOthers, OwnAre, Heard, StandsLast, given, may_answer, is_last_link}
 use Rattle.od_transfer.specs.declared.remote.AskFault.{AskFault}
 use Rattle.od_transfer.specs.declared.remote.AskFault.TheVariants as ask
 use Rattle.od_sync.specs.declared.delta.DeltaFault.{DeltaFault}
