@@ -138,9 +138,12 @@ first-living position n items first later is =
     elim (nat_eq position 0) as (λ b. (i : ℕ) × (n ≤ i) × (put_in (cond b (root ∷ []) []) ≡ take i (whole (cond b (root ∷ []) [])))) [
       | true ↦
           let past : Above 1 order = above-put [] changes tt (later-changes items position items later) in
-          let past_first : Above 1 (map (live_entry items) first) = subst (Above 1) (sym entries) (above-take n order past) in
-          (suc n, omega arith, behind root [] (map (live_entry items) first) past_first ∙ ap (λ es. root ∷ es) alone
-          ∙ ap (take (suc n)) (sym (behind root [] changes (later-changes items position items later))))
+          let past_first : Above 1 (map (live_entry items) first) = subst (Above 1) (sym entries) (above-take n order past) in (
+            suc n,
+            omega arith,
+            behind root [] (map (live_entry items) first) past_first ∙ ap (λ es. root ∷ es) alone
+                ∙ ap (take (suc n)) (sym (behind root [] changes (later-changes items position items later))),
+          )
       | false ↦ (n, omega arith, alone)
     ]
 

@@ -1,5 +1,5 @@
 -- Numbers that are there.
-use Rattle.std.proofs.Common.{◌≡◌, ℕ, ◌+◌, Bool, true, false, ◌||◌, cond, nat_eq, List, [], ◌∷◌, ◌++◌, map, filter, is_some, is_none, Bor, Option, Some, None, refl, sym, ap, ◌∙◌, subst, eq-eqb}
+use Rattle.std.proofs.Common.{◌≡◌, ℕ, ◌+◌, Bool, true, false, ◌||◌, not, cond, nat_eq, List, [], ◌∷◌, ◌++◌, map, filter, is_some, is_none, Bor, Option, Some, None, refl, sym, ap, ◌∙◌, subst, eq-eqb}
 use Rattle.std.proofs.lemmas.Bool.{ne_eqb, or_right}
 use Rattle.std.specs.List.{find}
 use Rattle.std.specs.Option.{option_copied, option_map}
@@ -76,6 +76,12 @@ folder-by number items found away got =
 
 pub folder-none : (number : ℕ) (items : List LiveItem) → (number ≡ 1 → ⊥) → None ≡ live_at number items → false ≡ is_folder number (map live_node items)
 folder-none number items away got = folder-by number items None away got
+
+pub none-told : {X : Type 0} (found : Option X) (b : Bool) → is_some found ≡ not b → b ≡ is_none found
+none-told None true is = refl
+none-told None false is = absurd cc
+none-told (Some x) true is = absurd cc
+none-told (Some x) false is = refl
 
 pub folder-some : (number : ℕ) (items : List LiveItem) (item : LiveItem) (b : Bool) → (number ≡ 1 → ⊥) → Some item ≡ live_at number items → b ≡ is_none item.bytes → b ≡ is_folder number (map live_node items)
 folder-some number items item b away got is = is ∙ folder-by number items (Some item) away got

@@ -14,6 +14,6 @@ decreases-mark_within l = l.steps
 abbrev pub invariant-loop-child : goal.invariant-loop-child
 invariant-loop-child l = record {
   marks : (n : ℕ) → (list_any (λ (child : Bor LiveItem). is_in_within (l.steps - 1) (map live_node l.items) child.now.number n) (drop l.child-index l.child-items) || contains nat_cmp l.marked n)
-    ≡ (is_in_within l.steps (map live_node l.items) l.number n || contains nat_cmp l.fn.marked n);
+      ≡ (is_in_within l.steps (map live_node l.items) l.number n || contains nat_cmp l.fn.marked n);
   ordered : IsOrdered nat_cmp l.marked;
 }

@@ -30,4 +30,4 @@ returns c =
     let same =
     listed (λ (r : Bor LiveItem). r.now) (record_with true held) c.args.most c.saturating_add-count.result c.in_ok-found.found.items xs
     (count-of c.args.most c.saturating_add-count.result (length c.in_ok-found.found.items) few c.saturating_add-count.ensures) are in
-    (c.in_ok-records.ensures ∙ same.0, ap (nat_lt c.args.most) c.len.ensures ∙ same.1)
+    (c.in_ok-records.ensures ∙ same.0, ap (λ (rs : List (Bor LiveItem)). nat_lt c.args.most (length rs)) c.as_slice.ensures.value ∙ same.1)
