@@ -35,7 +35,7 @@ make-sound old new parent name behaviour begun allowed is =
     })
 
 -- a file that is put under a folder
-under-sound : (held : Inventory) (parent : ℕ) (name bytes : List ℕ) (behaviour : Conflict) (others : ℕ) (settle : Settle) → IsItemMap held → 1 < held.next → 0 < held.number → settled_in held parent name behaviour false ≡ settle
+pub under-sound : (held : Inventory) (parent : ℕ) (name bytes : List ℕ) (behaviour : Conflict) (others : ℕ) (settle : Settle) → IsItemMap held → 1 < held.next → 0 < held.number → settled_in held parent name behaviour false ≡ settle
     → MayPut held parent name bytes others settle → IsItemMap (after held (file_effect parent name bytes settle))
 under-sound held parent name bytes behaviour others (Free free) sound next number is may =
     sound-file held parent free bytes sound next number may.there may.folder

@@ -24,7 +24,7 @@ pub record IsBegun (held : Inventory) : Type 0 where
   pub number : 0 < held.number
 
 -- the tree does not hang on what was removed
-sound-pruned : (floor : ℕ) (held : Inventory) → IsItemMap held → IsItemMap (pruned floor held)
+pub sound-pruned : (floor : ℕ) (held : Inventory) → IsItemMap held → IsItemMap (pruned floor held)
 sound-pruned floor held sound = record {
   within = All-weaker (IsWithin held) (IsWithin (pruned floor held)) (λ item w. record { above = w.above; below = w.below; later = w.later; done = w.done }) held.items sound.within;
   numbers = sound.numbers;

@@ -1,25 +1,21 @@
--- An item that is there, or was just added or changed, has a record.
-use Rattle.std.proofs.Common.{◌≡◌, ℕ, ◌+◌, Bool, true, false, ◌||◌, cond, nat_eq, List, [], ◌∷◌, ◌++◌, map, filter, is_some, Option, Some, None, refl, sym, ap, ◌∙◌, subst, eq-eqb}
-use Rattle.std.proofs.lemmas.Bool.{or_right}
+-- Numbers that are there.
+use Rattle.std.proofs.Common.{◌≡◌, ℕ, ◌+◌, Bool, true, false, ◌||◌, not, cond, nat_eq, List, [], ◌∷◌, ◌++◌, map, filter, is_some, is_none, Bor, Option, Some, None, refl, sym, ap, ◌∙◌, subst, eq-eqb}
+use Rattle.std.proofs.lemmas.Bool.{ne_eqb, or_right}
 use Rattle.std.specs.List.{find}
-use Rattle.std.specs.Option.{option_map}
+use Rattle.std.specs.Option.{option_copied, option_map}
 use Rattle.gd_names.specs.Caseless.{equal_caseless}
 use Rattle.gd_names.specs.declared.conflict.Conflict.{Conflict}
 use Rattle.gd_names.specs.declared.conflict.Settle.TheVariants.{Over}
 use Rattle.gd_names.specs.declared.conflict.Sibling.{Sibling}
 use Rattle.gd_names.proofs.Settled.{over-sibling}
 use Rattle.gd_names.proofs.Small.{clear, un-not}
-use Rattle.gd_item.specs.Inventory.{Inventory, after, changed, live_at, with_bytes, with_place}
-use Rattle.gd_item.specs.Moves.{patch_refusal, patch_effect, new_parent, new_name}
-use Rattle.gd_item.specs.Nodes.{live_node}
-use Rattle.gd_item.specs.Records.{root_record, record_with, record_at}
+use Rattle.gd_item.specs.Inventory.{Inventory, live_at}
+use Rattle.gd_item.specs.Nodes.{live_node, node_at, is_folder, is_some_folder}
 use Rattle.gd_item.specs.Refusals.{is_there, settled_in, sibling_of, siblings_in, put_over_refusal}
 use Rattle.gd_item.specs.Trees.{nodes_of}
 use Rattle.gd_item.specs.declared.condition.Condition.{Condition}
-use Rattle.gd_item.specs.declared.item.Item.{Item}
 use Rattle.gd_item.specs.declared.live.LiveItem.{LiveItem}
 use Rattle.gd_laws.proofs.Found.{node-of-live}
-use Rattle.gd_laws.proofs.Living.{live-changed}
 
 mapped-some : {X Y : Type 0} (f : X → Y) (found : Option X) → is_some (option_map f found) ≡ is_some found
 mapped-some f None = refl
@@ -29,58 +25,6 @@ mapped-some f (Some x) = refl
 pub there-is : (number : ℕ) (items : List LiveItem) → is_there number (map live_node items) ≡ (nat_eq number 1 || is_some (live_at number items))
 there-is number items =
     ap (λ found. nat_eq number 1 || is_some found) (node-of-live number items) ∙ ap (λ b. nat_eq number 1 || b) (mapped-some live_node (live_at number items))
-
-given : (one : Bool) (root : Item) (record_it : LiveItem → Item) (found : Option LiveItem) → (one || is_some found) ≡ true → None ≡ cond one (Some root) (option_map record_it found) → ⊥
-given true root record_it found there none = cc
-given false root record_it None there none = cc
-given false root record_it (Some item) there none = cc
-
--- the record of an item that is there is given
-pub recorded : (held : Inventory) (number : ℕ) (with_path : Bool) → is_there number (nodes_of held) ≡ true → None ≡ record_at number with_path held → ⊥
-recorded held number with_path there none =
-    given (nat_eq number 1) (root_record held.items) (record_with with_path held) (live_at number held.items) (sym (there-is number held.items) ∙ there) none
-
--- an item that was just added
-live-added : (items : List LiveItem) (item : LiveItem) → is_some (live_at item.number (items ++ item ∷ [])) ≡ true
-live-added [] item = ap (λ b. is_some (cond b (Some item) None)) (eq-eqb item.number item.number refl)
-live-added (first ∷ items) item =
-    elim (nat_eq first.number item.number) as (λ b. is_some (cond b (Some first) (live_at item.number (items ++ item ∷ []))) ≡ true)
-    [ true ↦ refl | false ↦ live-added items item ]
-
-pub added-recorded : (old new : Inventory) (item : LiveItem) (with_path : Bool) → new.items ≡ old.items ++ item ∷ [] → None ≡ record_at item.number with_path new → ⊥
-added-recorded old new item with_path is none =
-    let IsThere : List LiveItem → Type 0 = λ items. is_there item.number (map live_node items) ≡ true in
-    let there : IsThere (old.items ++ item ∷ []) =
-    there-is item.number (old.items ++ item ∷ []) ∙ or_right (nat_eq item.number 1) (is_some (live_at item.number (old.items ++ item ∷ []))) (live-added old.items item) in
-    recorded new item.number with_path (subst IsThere (sym is) there) none
-
--- a change of an item that keeps its number
-changed-some : (b : Bool) (f : LiveItem → LiveItem) (found : Option LiveItem) → is_some (cond b (option_map f found) found) ≡ is_some found
-changed-some true f found = mapped-some f found
-changed-some false f found = refl
-
-pub there-changed : (number other : ℕ) (f : LiveItem → LiveItem) (items : List LiveItem) → ((item : LiveItem) → (f item).number ≡ item.number) → is_there number (map live_node items) ≡ true → is_there number (map live_node (changed other f items)) ≡ true
-there-changed number other f items same there =
-    there-is number (changed other f items) ∙ ap (λ b. nat_eq number 1 || b) (ap is_some (live-changed number other f items same) ∙ changed-some (nat_eq other number) f (live_at number items)) ∙ sym (there-is number items) ∙ there
-
--- an item that was just moved
-pub moved-recorded : (old new : Inventory) (number : ℕ) (name : Option (List ℕ)) (parent : Option ℕ) (condition : Condition) (with_path : Bool) → patch_refusal old number name parent condition ≡ None
-    → new ≡ after old (patch_effect old number name parent) → None ≡ record_at number with_path new → ⊥
-moved-recorded old new number name parent condition with_path allowed is none =
-    let there : is_there number (nodes_of old) ≡ true = un-not _ (clear _ _ _ (sym allowed)).0 in
-    let moved : Inventory = after old (patch_effect old number name parent) in
-    let stays : is_there number (nodes_of moved) ≡ true =
-    there-changed number number (with_place (old.number + 1) (new_parent old number parent) (new_name old number name)) old.items (λ item. refl) there in
-    recorded moved number with_path stays (none ∙ ap (record_at number with_path) is)
-
--- a file that just got new bytes
-pub written-recorded : (old new : Inventory) (number change : ℕ) (bytes : List ℕ) (with_path : Bool) (before written : List LiveItem) → is_there number (nodes_of old) ≡ true → before ≡ old.items
-    → written ≡ changed number (with_bytes change bytes) before → new.items ≡ written → None ≡ record_at number with_path new → ⊥
-written-recorded old new number change bytes with_path before written there stood is has none =
-    let IsThere : List LiveItem → Type 0 = λ items. is_there number (map live_node items) ≡ true in
-    let stays : IsThere (changed number (with_bytes change bytes) before) =
-    there-changed number number (with_bytes change bytes) before (λ item. refl) (subst IsThere (sym stood) there) in
-    recorded new number with_path (subst IsThere (sym (has ∙ is)) stays) none
 
 -- a file that may be put over another is there, and so is the one over which a name is settled
 pub over-there : (held : Inventory) (number : ℕ) (bytes : List ℕ) (condition : Condition) (others : ℕ) → put_over_refusal held number bytes condition others ≡ None → is_there number (nodes_of held) ≡ true
@@ -115,3 +59,32 @@ folder-over held parent name behaviour number is =
     let over = over-sibling behaviour (siblings_in parent held.items) name true number is in
     let not_true : true ≡ false = over.4 in
     cc
+
+-- ---- whether a number is there, and is a folder, as its item tells it
+copied-some : (found : Option (Bor LiveItem)) → is_some (option_copied found) ≡ is_some found
+copied-some None = refl
+copied-some (Some item) = refl
+
+pub known : (number : ℕ) (items : List LiveItem) (found : Option (Bor LiveItem)) (b : Bool) → (number ≡ 1 → ⊥) → option_copied found ≡ live_at number items → b ≡ is_some found → b ≡ is_there number (map live_node items)
+known number items found b away got is =
+    is ∙ sym (copied-some found) ∙ ap is_some got ∙ sym (ap (λ one. one || is_some (live_at number items)) (ne_eqb number 1 away)) ∙ sym (there-is number items)
+
+folder-by : (number : ℕ) (items : List LiveItem) (found : Option LiveItem) → (number ≡ 1 → ⊥) → found ≡ live_at number items → is_some_folder (option_map live_node found) ≡ is_folder number (map live_node items)
+folder-by number items found away got =
+    ap (λ (o : Option LiveItem). is_some_folder (option_map live_node o)) got ∙ sym (ap is_some_folder (node-of-live number items))
+    ∙ sym (ap (λ one. one || is_some_folder (node_at number (map live_node items))) (ne_eqb number 1 away))
+
+pub folder-none : (number : ℕ) (items : List LiveItem) → (number ≡ 1 → ⊥) → None ≡ live_at number items → false ≡ is_folder number (map live_node items)
+folder-none number items away got = folder-by number items None away got
+
+pub none-told : {X : Type 0} (found : Option X) (b : Bool) → is_some found ≡ not b → b ≡ is_none found
+none-told None true is = refl
+none-told None false is = absurd cc
+none-told (Some x) true is = absurd cc
+none-told (Some x) false is = refl
+
+pub folder-some : (number : ℕ) (items : List LiveItem) (item : LiveItem) (b : Bool) → (number ≡ 1 → ⊥) → Some item ≡ live_at number items → b ≡ is_none item.bytes → b ≡ is_folder number (map live_node items)
+folder-some number items item b away got is = is ∙ folder-by number items (Some item) away got
+
+pub alive : (number : ℕ) (items : List LiveItem) (found : Option (Bor LiveItem)) (b : Bool) → option_copied found ≡ live_at number items → is_some found ≡ b → is_some (live_at number items) ≡ b
+alive number items found b got is = sym (ap is_some got) ∙ copied-some found ∙ is

@@ -1,8 +1,13 @@
-ghost use Rattle.std.specs.Prelude.{◌≡◌, ◌-◌, ◌^◌, ◌<◌, cond, filter, nat_lt, length, slice_index, OnOk, IfOk};
+ghost use Rattle.std.specs.Prelude.{◌≡◌, ◌-◌, ◌^◌, ◌<◌, cond, map, take, filter, nat_lt, length, slice_index, Some, OnOk, IfOk};
+ghost use Rattle.std.specs.List.{All, AllPairs};
 ghost use Rattle.std.specs.Map.{keys_of};
-ghost use Rattle.gd_item.specs.Records.{in_change_order_from, root_change, live_changes, removals, first_of, last_of};
+ghost use Rattle.gd_item.specs.Inventory.{live_at};
+ghost use Rattle.gd_item.specs.Records.{in_change_order_from, root_change, first_of, last_of};
+ghost use Rattle.gd_item.specs.declared.live.Tombstone.{Tombstone};
+ghost use Rattle.gd_store.specs.Recorded.{live_entry, stone_entry, stones_past};
 
 use crate::record::{make_deleted_record, make_record, make_root_record};
+use gd_index::Index;
 use gd_item::{Item, LiveItem, Tombstone};
 use gd_names::{List, NoMemory};
 use std::alloc::Global;
@@ -12,7 +17,7 @@ use std::collections::BTreeMap;
 pub fn put_root(
     alloc: Global,
     changes: &mut BTreeMap<u64, Item>,
-    items: &[LiveItem],
+    items: &Index,
     position: u64,
 ) -> Result<(), NoMemory>
     ensures { OnOk result (changes.new.entries ≡ in_change_order_from changes.old.entries (root_change position items.now)) }
@@ -24,41 +29,53 @@ pub fn put_root(
     Ok(())
 }
 
-/// Puts the records of the items that are past the position among the changes.
+/// Puts the records of these items among the changes.
 pub fn put_items(
     alloc: Global,
     changes: &mut BTreeMap<u64, Item>,
-    items: &[LiveItem],
-    position: u64,
+    items: &Index,
+    changed: &[&LiveItem],
 ) -> Result<(), NoMemory>
-    ensures { OnOk result (changes.new.entries ≡ in_change_order_from changes.old.entries (live_changes position items.now items.now)) }
+    requires { All (λ item. live_at item.now.number items.now ≡ Some item.now) changed.now }
+    ensures { OnOk result (changes.new.entries ≡ in_change_order_from changes.old.entries (map (λ item. live_entry items.now item.now) changed.now)) }
 {
-    for item in items {
-        if position < item.change {
-            let record = make_record(alloc, items, item)?;
-            changes.insert(item.change, record)?;
-        }
+    for item in changed {
+        let record = make_record(alloc, items, *item)?;
+        changes.insert(item.change, record)?;
     }
     Ok(())
 }
 
-/// Puts the records of the removed items that are past both numbers among the changes.
+/// Puts the records of these removed items among the changes.
 pub fn put_stones(
     alloc: Global,
     changes: &mut BTreeMap<u64, Item>,
     stones: &[Tombstone],
-    position: u64,
-    removed_after: u64,
 ) -> Result<(), NoMemory>
-    ensures { OnOk result (changes.new.entries ≡ in_change_order_from changes.old.entries (removals position removed_after stones.now)) }
+    ensures { OnOk result (changes.new.entries ≡ in_change_order_from changes.old.entries (map stone_entry stones.now)) }
 {
     for stone in stones {
-        if position < stone.change && removed_after < stone.change {
-            let record = make_deleted_record(alloc, stone)?;
-            changes.insert(stone.change, record)?;
-        }
+        let record = make_deleted_record(alloc, stone)?;
+        changes.insert(stone.change, record)?;
     }
     Ok(())
+}
+
+/// The first removed items past both numbers, at most so many, of some in order of change.
+pub fn first_stones(
+    stones: &[Tombstone],
+    position: u64,
+    removed_after: u64,
+    most: usize,
+) -> &[Tombstone]
+    requires { AllPairs (λ (x y : Tombstone). x.change < y.change) stones.now }
+    ensures { result.now ≡ take most (stones_past position removed_after stones.now) }
+{
+    let last = position.max(removed_after);
+    let start = stones.partition_point(|stone| stone.change <= last);
+    let (_, past) = stones.split_at(start);
+    let (first, _) = past.split_at(past.len().min(most));
+    first
 }
 
 /// Leaves out the removed items up to a floor. Takes no memory.

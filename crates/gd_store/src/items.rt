@@ -1,8 +1,8 @@
-ghost use Rattle.std.specs.Prelude.{◌≡◌, ◌+◌, ◌-◌, ◌^◌, ◌<◌, length, map, is_some, reverse, None, IfOk};
+ghost use Rattle.std.specs.Prelude.{◌≡◌, ◌+◌, ◌-◌, ◌^◌, ◌<◌, length, map, take, is_some, reverse, None, IfOk};
 ghost use Rattle.std.specs.Option.{option_copied};
 ghost use Rattle.gd_item.specs.Inventory.{new_drive, live_at};
 ghost use Rattle.gd_item.specs.Nodes.{path_of, number_at, child_at};
-ghost use Rattle.gd_item.specs.Records.{record_at, record_with, feed, first_of, last_of};
+ghost use Rattle.gd_item.specs.Records.{record_at, feed, first_of, last_of};
 ghost use Rattle.gd_item.specs.Refusals.{file_refusal as not_file, settled_in, is_refuse, settled_path, is_too_long, is_over_quota, made_items, is_met as is_condition_met};
 ghost use Rattle.gd_item.specs.Trees.{nodes_of};
 ghost use Rattle.gd_item.specs.Versions.{version_at, content_at, info_of};
@@ -16,12 +16,12 @@ mod putting;
 mod relocating;
 mod removing;
 
-use crate::feed::{drop_stones, first_changes, put_items, put_root, put_stones};
-use crate::look::{child_named, find_names, is_a_folder, is_known, item_at, siblings};
+use crate::feed::{drop_stones, first_changes, first_stones, put_items, put_root, put_stones};
+use crate::look::{find_names, is_a_folder, is_known};
 use crate::path::{is_long, path_to};
-use crate::record::{content_tag_of, make_record, make_root_record, parent_path_of};
+use crate::record::{content_tag_of, record_at as find_record_at};
 use crate::versions::{push_version, version_bytes, version_infos};
-use gd_conflict::settle;
+use gd_index::Index;
 use gd_item::{
     Condition, Item, LiveItem, StoreFault, Tombstone, Version, VersionInfo, etag_of, matches,
 };
@@ -36,11 +36,11 @@ const MOST_ITEMS: usize = 100_000;
 /// How many bytes may be kept, those of replaced files among them.
 const MOST_BYTES: u64 = 536_870_912;
 
-/// A drive's items, tombstones and versions in plain lists.
+/// A drive's items in an index, its tombstones in order of change, and its versions.
 #[derive(Debug, Drop)]
 pub struct Items {
     alloc: Global,
-    items: Vec<LiveItem>,
+    index: Index,
     removed: Vec<Tombstone>,
     replaced: Vec<Version>,
     number: u64,
@@ -49,16 +49,16 @@ pub struct Items {
 }
 
 impl Model for Items {
-    ghost use Rattle.std.specs.Prelude.{[], ◌+◌, length};
+    ghost use Rattle.std.specs.Prelude.{◌+◌};
     ghost use Rattle.gd_item.specs.Inventory.{Inventory};
 
     ghost Value = { Inventory };
 
-    ghost use Rattle.gd_store.specs.Stands.{IsWithin};
+    ghost use Rattle.gd_store.specs.Kept.{IsKept};
 
-    ghost view = { λ s. record { number = s.number; next = s.last + 1; items = s.items.items; removed = s.removed.items; replaced = s.replaced.items; kept = s.kept } };
+    ghost view = { λ s. record { number = s.number; next = s.last + 1; items = s.index; removed = s.removed.items; replaced = s.replaced.items; kept = s.kept } };
 
-    ghost invariant = { λ s. IsWithin (length s.items.items) s.last s.number };
+    ghost invariant = { λ s. IsKept (record { number = s.number; next = s.last + 1; items = s.index; removed = s.removed.items; replaced = s.replaced.items; kept = s.kept }) };
 }
 
 /// Whether the name is none that an item may have.
@@ -103,7 +103,7 @@ impl Items {
     {
         Items {
             alloc,
-            items: Vec::new(alloc),
+            index: Index::new(alloc),
             removed: Vec::new(alloc),
             replaced: Vec::new(alloc),
             number: 1,
@@ -130,7 +130,7 @@ impl Items {
     pub fn count(&self) -> u64
         ensures { result ≡ length self.now.items + 1 }
     {
-        self.items.len() as u64 + 1
+        self.index.len() as u64 + 1
     }
 
     /// Forgets the tombstones up to a floor. Takes no memory.
@@ -144,55 +144,34 @@ impl Items {
     pub fn find_child(&self, parent: u64, name: &Text) -> Option<u64>
         ensures { result ≡ child_at parent name.now (nodes_of self.now) }
     {
-        child_named(self.items.as_slice(), parent, name)
+        self.index.child(parent, name)
     }
 
     /// The number at a path.
     pub fn find(&self, path: &Path) -> Option<u64>
         ensures { result ≡ number_at path.now (nodes_of self.now) }
     {
-        find_names(self.items.as_slice(), path.names())
+        find_names(&self.index, path.names())
     }
 
     /// The record of a number.
     pub fn find_record(&self, number: u64, with_path: bool) -> Result<Option<Item>, NoMemory>
         ensures { IfOk result (λ found. found ≡ record_at number with_path self.now) }
     {
-        if number == 1 {
-            let root = make_root_record(self.alloc, self.items.as_slice())?;
-            return Ok(Some(root));
-        }
-        match item_at(self.items.as_slice(), number) {
-            None => Ok(None),
-            Some(item) => {
-                let made = self.record_of(item, with_path)?;
-                Ok(Some(made))
-            }
-        }
-    }
-
-    /// The record of a living item.
-    pub fn record_of(&self, item: &LiveItem, with_path: bool) -> Result<Item, NoMemory>
-        ensures { IfOk result (λ made. made ≡ record_with with_path self.now item.now) }
-    {
-        let mut made = make_record(self.alloc, self.items.as_slice(), item)?;
-        if with_path {
-            made.parent_path = parent_path_of(self.alloc, self.items.as_slice(), item.parent)?;
-        }
-        Ok(made)
+        find_record_at(self.alloc, &self.index, number, with_path)
     }
 
     /// The content number of a file.
     pub fn content_of(&self, number: u64) -> Result<u64, StoreFault>
         ensures { result ≡ given_unless (not_file self.now number) (content_at number self.now) }
     {
-        if !is_known(self.items.as_slice(), number) {
+        if !is_known(&self.index, number) {
             return Err(StoreFault::NotFound);
         }
-        if is_a_folder(self.items.as_slice(), number) {
+        if is_a_folder(&self.index, number) {
             return Err(StoreFault::NotFile);
         }
-        match item_at(self.items.as_slice(), number) {
+        match self.index.get(number) {
             None => Ok(0),
             Some(item) => Ok(item.content),
         }
@@ -202,7 +181,7 @@ impl Items {
     pub fn find_version(&self, number: u64, version: u64) -> Result<Option<Bytes>, NoMemory>
         ensures { IfOk result (λ found. found ≡ version_at number version self.now) }
     {
-        let Some(item) = item_at(self.items.as_slice(), number) else {
+        let Some(item) = self.index.get(number) else {
             return Ok(None);
         };
         match version_bytes(item, self.replaced.as_slice(), version) {
@@ -211,20 +190,23 @@ impl Items {
         }
     }
 
-    /// The records past a position, and those of what was removed past both numbers, by change number.
-    pub fn changes(
+    /// The first records past a position, and of what was removed past both numbers, by change number.
+    fn changes(
         &self,
         position: u64,
         removed_after: u64,
+        most: usize,
     ) -> Result<BTreeMap<u64, Item>, NoMemory>
-        ensures { IfOk result (λ changes. changes.entries ≡ feed self.now position removed_after) }
+        ensures first { IfOk result (λ changes. take most changes.entries ≡ take most (feed self.now position removed_after)) }
+        ensures small { IfOk result (λ changes. length changes.entries < 2 ^ 63) }
     {
-        let items = self.items.as_slice();
-        let stones = self.removed.as_slice();
+        let items = self.index.changed_after(position, most)?;
+        let stones = first_stones(self.removed.as_slice(), position, removed_after, most);
         let mut changes = BTreeMap::new(self.alloc);
-        put_root(self.alloc, &mut changes, items, position)?;
-        put_items(self.alloc, &mut changes, items, position)?;
-        put_stones(self.alloc, &mut changes, stones, position, removed_after)?;
+        put_root(self.alloc, &mut changes, &self.index, position)?;
+        put_items(self.alloc, &mut changes, &self.index, items.as_slice())?;
+        put_stones(self.alloc, &mut changes, stones)?;
+        let _count = changes.len();
         Ok(changes)
     }
 
@@ -240,8 +222,11 @@ impl Items {
         ensures found { IfOk result (λ found. (found.0 ≡ first_of most (feed self.now position removed_after)) × (found.1 ≡ last_of most (feed self.now position removed_after))) }
         ensures whole { IfOk result (λ found. most ≡ 2 ^ 64 - 1 → found.1 ≡ None) }
     {
-        let changes = self.changes(position, removed_after)?;
-        first_changes(self.alloc, changes, most)
+        // One more tells whether more follow.
+        let count = (most as usize).saturating_add(1);
+        let changes = self.changes(position, removed_after, count)?;
+        let found = first_changes(self.alloc, changes, most)?;
+        Ok(found)
     }
 
     /// The versions of an item that are kept, the newest first.
@@ -249,7 +234,7 @@ impl Items {
         ensures { IfOk result (λ found. found ≡ reverse (map info_of (given_versions number self.now))) }
     {
         let mut infos = version_infos(self.alloc, self.replaced.as_slice(), number)?;
-        push_version(&mut infos, item_at(self.items.as_slice(), number))?;
+        push_version(&mut infos, self.index.get(number))?;
         infos.as_mut_slice().reverse();
         Ok(List::from_vec(infos))
     }
@@ -258,10 +243,10 @@ impl Items {
     pub fn list_versions(&self, number: u64) -> Result<List<VersionInfo>, StoreFault>
         ensures { Answers (not_file self.now number) result (λ found. found ≡ reverse (map info_of (given_versions number self.now))) }
     {
-        if !is_known(self.items.as_slice(), number) {
+        if !is_known(&self.index, number) {
             return Err(StoreFault::NotFound);
         }
-        if is_a_folder(self.items.as_slice(), number) {
+        if is_a_folder(&self.index, number) {
             return Err(StoreFault::NotFile);
         }
         let found = self.kept_versions(number)?;
@@ -278,8 +263,7 @@ impl Items {
     ) -> Result<Settle, NoMemory>
         ensures { IfOk result (λ found. found ≡ settled_in self.now parent name.now behaviour folder) }
     {
-        let siblings = siblings(self.alloc, self.items.as_slice(), parent)?;
-        settle(self.alloc, behaviour, &siblings, name, folder)
+        self.index.settle(parent, name, behaviour, folder)
     }
 
     /// Whether an item that is settled so would get a path that is longer than any item's may be.
@@ -287,7 +271,7 @@ impl Items {
         ensures { IfOk result (λ long. long ≡ is_too_long (settled_path self.now parent settle.now)) }
     {
         match settle {
-            Settle::Free(name) => match path_to(self.alloc, self.items.as_slice(), parent)? {
+            Settle::Free(name) => match path_to(self.alloc, &self.index, parent)? {
                 None => Ok(false),
                 Some(path) => {
                     let mut names = path.into_names();
@@ -296,7 +280,7 @@ impl Items {
                 }
             },
             Settle::Over(number) => {
-                let path = path_to(self.alloc, self.items.as_slice(), *number)?;
+                let path = path_to(self.alloc, &self.index, *number)?;
                 Ok(is_long(&path))
             }
             Settle::Refuse => Ok(false),
@@ -308,7 +292,7 @@ impl Items {
         requires { items < 2 }
         ensures { result ≡ is_over_quota self.now items (bytes + others) }
     {
-        if self.items.len() + 1 + items > MOST_ITEMS {
+        if self.index.len() + 1 + items > MOST_ITEMS {
             return true;
         }
         if self.number == u64::MAX {
@@ -336,7 +320,7 @@ impl Items {
     pub fn meets_at(&self, number: u64, condition: &Condition) -> Result<bool, NoMemory>
         ensures { IfOk result (λ met. met ≡ is_condition_met condition.now (live_at number self.now.items)) }
     {
-        let item = item_at(self.items.as_slice(), number);
+        let item = self.index.get(number);
         self.meets(condition, item)
     }
 
@@ -344,7 +328,7 @@ impl Items {
     pub fn is_long_at(&self, number: u64) -> Result<bool, NoMemory>
         ensures { IfOk result (λ long. long ≡ is_too_long (path_of (nodes_of self.now) number)) }
     {
-        let path = path_to(self.alloc, self.items.as_slice(), number)?;
+        let path = path_to(self.alloc, &self.index, number)?;
         Ok(is_long(&path))
     }
 }

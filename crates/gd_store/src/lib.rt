@@ -1,8 +1,7 @@
-//! The items of a drive by number, as a plain list: what its steps do, and why they are refused. Beside them the epoch
-//! of the drive's tokens, and the floor up to which its removals are forgotten.
+//! The items of a drive by number, in an index: what its steps do, and why they are refused. Beside them the epoch of the
+//! drive's tokens, and the floor up to which its removals are forgotten.
 #![tactic(auto)]
 
-mod children;
 mod edit;
 mod feed;
 mod items;
@@ -13,6 +12,7 @@ mod record;
 mod removing;
 mod store;
 mod versions;
+mod walk;
 
 pub use gd_item::StoreFault;
 pub use store::Store;

@@ -1,19 +1,23 @@
-ghost use Rattle.std.specs.Prelude.{◌≡◌, ◌&&◌, map, IfOk};
-ghost use Rattle.gd_item.specs.Inventory.{changed, with_place};
-ghost use Rattle.gd_item.specs.Moves.{is_in_within, is_in as is_node_in, is_taken_by_other as is_name_taken};
-ghost use Rattle.gd_item.specs.Nodes.{live_node, path_of};
+ghost use Rattle.std.specs.Prelude.{◌≡◌, map, IfOk};
+ghost use Rattle.std.specs.List.{list_any};
+ghost use Rattle.std.specs.Option.{option_map};
+ghost use Rattle.gd_item.specs.Inventory.{changed, with_place, live_at};
+ghost use Rattle.gd_item.specs.Moves.{is_in_within, is_in as is_node_in};
+ghost use Rattle.gd_item.specs.Nodes.{live_node, path_within, path_of};
 ghost use Rattle.gd_item.specs.Refusals.{is_too_long};
-ghost use Rattle.gd_store.specs.Moved.{is_any_long as is_one_long};
+ghost use Rattle.gd_item.specs.declared.live.LiveItem.{LiveItem};
+ghost use Rattle.gd_store.specs.Kept.{AreApart};
+ghost use Rattle.gd_store.specs.Moved.{is_any_long as is_one_long, place_of};
 
-use crate::edit::place_item;
-use crate::look::item_at;
-use crate::path::{is_long, path_to};
-use gd_item::LiveItem;
-use gd_names::{NoMemory, Text, same_caseless};
+use crate::look::is_a_folder;
+use crate::path::is_long;
+use crate::walk::numbers_within;
+use gd_index::Index;
+use gd_names::{List, NoMemory, Path, Text};
 use std::alloc::Global;
 
 /// Whether a number is that of the top or stands below it, over at most so many folders.
-fn is_within(items: &[LiveItem], top: u64, number: u64, steps: usize) -> bool
+fn is_within(items: &Index, top: u64, number: u64, steps: usize) -> bool
     ensures { result ≡ is_in_within steps (map live_node items.now) top number }
 {
     if number == top {
@@ -22,76 +26,121 @@ fn is_within(items: &[LiveItem], top: u64, number: u64, steps: usize) -> bool
     if steps == 0 {
         return false;
     }
-    match item_at(items, number) {
+    match items.get(number) {
         None => false,
         Some(item) => is_within(items, top, item.parent, steps - 1),
     }
 }
 
 /// Whether a number is that of the top or stands below it.
-pub fn is_in(items: &[LiveItem], top: u64, number: u64) -> bool
+pub fn is_in(items: &Index, top: u64, number: u64) -> bool
     ensures { result ≡ is_node_in (map live_node items.now) top number }
 {
     is_within(items, top, number, items.len())
 }
 
-/// Whether another item of a folder has the name already, but for case.
-pub fn is_taken_by_other(items: &[LiveItem], number: u64, parent: u64, name: &Text) -> bool
-    ensures { result ≡ is_name_taken number parent name.now items.now }
+/// The folder and the name of a number once an item is moved.
+fn moved_place<'a>(
+    items: &'a Index,
+    moved: u64,
+    parent: u64,
+    name: &'a Text,
+    number: u64,
+) -> Option<(u64, &'a Text)>
+    ensures { option_map (λ place. (place.0, place.1.now)) result ≡ option_map place_of (live_at number (changed moved (with_place 0 parent name.now) items.now)) }
 {
-    for item in items {
-        if item.parent == parent && item.number != number && same_caseless(&item.name, name) {
-            return true;
+    let Some(item) = items.get(number) else {
+        return None;
+    };
+    if number == moved {
+        Some((parent, name))
+    } else {
+        Some((item.parent, &item.name))
+    }
+}
+
+/// The names down to a number once an item is moved, over at most so many folders, if they lead up to the root.
+fn moved_names(
+    alloc: Global,
+    items: &Index,
+    moved: u64,
+    parent: u64,
+    name: &Text,
+    number: u64,
+    steps: usize,
+) -> Result<Option<List<Text>>, NoMemory>
+    ensures { IfOk result (λ found. found ≡ path_within steps (map live_node (changed moved (with_place 0 parent name.now) items.now)) number) }
+{
+    if number == 1 {
+        return Ok(Some(List::new(alloc)));
+    }
+    if steps == 0 {
+        return Ok(None);
+    }
+    let Some((above, last)) = moved_place(items, moved, parent, name, number) else {
+        return Ok(None);
+    };
+    if !is_a_folder(items, above) {
+        return Ok(None);
+    }
+    match moved_names(alloc, items, moved, parent, name, above, steps - 1)? {
+        None => Ok(None),
+        Some(mut names) => {
+            names.push(last.clone()?)?;
+            Ok(Some(names))
         }
     }
-    false
 }
 
-/// Whether a number is in the top and has a path that is longer than any item's may be.
-fn is_long_in(alloc: Global, items: &[LiveItem], top: u64, number: u64) -> Result<bool, NoMemory>
-    ensures { IfOk result (λ long. long ≡ (is_node_in (map live_node items.now) top number && is_too_long (path_of (map live_node items.now) number))) }
+/// The path of a number once an item is moved, if its folders then lead up to the root.
+pub fn moved_path(
+    alloc: Global,
+    items: &Index,
+    moved: u64,
+    parent: u64,
+    name: &Text,
+    number: u64,
+) -> Result<Option<Path>, NoMemory>
+    ensures { IfOk result (λ found. found ≡ path_of (map live_node (changed moved (with_place 0 parent name.now) items.now)) number) }
 {
-    if !is_in(items, top, number) {
-        return Ok(false);
+    match moved_names(alloc, items, moved, parent, name, number, items.len())? {
+        None => Ok(None),
+        Some(names) => Ok(Some(Path::from_names(names))),
     }
-    let path = path_to(alloc, items, number)?;
-    Ok(is_long(&path))
 }
 
-/// Whether the path of the top, or one below it, is longer than any item's may be.
-pub fn is_any_long(alloc: Global, items: &[LiveItem], top: u64) -> Result<bool, NoMemory>
-    ensures { IfOk result (λ long. long ≡ is_one_long top items.now) }
+/// Whether one of these numbers would have a path that is longer than any item's may be once an item is moved.
+fn is_one_of_long(
+    alloc: Global,
+    items: &Index,
+    moved: u64,
+    parent: u64,
+    name: &Text,
+    numbers: &[u64],
+) -> Result<bool, NoMemory>
+    ensures { IfOk result (λ long. long ≡ list_any (λ n. is_too_long (path_of (map live_node (changed moved (with_place 0 parent name.now) items.now)) n)) numbers.now) }
 {
-    for item in items {
-        let long = is_long_in(alloc, items, top, item.number)?;
-        if long {
+    for number in numbers {
+        let path = moved_path(alloc, items, moved, parent, name, *number)?;
+        if is_long(&path) {
             return Ok(true);
         }
     }
     Ok(false)
 }
 
-/// Whether a path would be longer than any item's may be once an item is moved. The items stay as they are.
+/// Whether the path of an item, or one below it, would be longer than any item's may be once the item is moved.
 pub fn would_any_be_long(
     alloc: Global,
-    items: &mut [LiveItem],
+    items: &Index,
     number: u64,
-    change: u64,
     parent: u64,
     name: &Text,
 ) -> Result<bool, NoMemory>
-    ensures answer { IfOk result (λ long. long ≡ is_one_long number (changed number (with_place change parent name.now) items.old)) }
-    ensures kept { items.new ≡ items.old }
+    requires { AreApart items.now }
+    ensures { IfOk result (λ long. long ≡ is_one_long number (changed number (with_place 0 parent name.now) items.now)) }
 {
-    let Some(item) = item_at(items, number) else {
-        return is_any_long(alloc, items, number);
-    };
-    let old_change = item.change;
-    let old_parent = item.parent;
-    let old_name = item.name.clone()?;
-    let new_name = name.clone()?;
-    place_item(items, number, change, parent, new_name);
-    let long = is_any_long(alloc, items, number);
-    place_item(items, number, old_change, old_parent, old_name);
-    long
+    let numbers = numbers_within(alloc, items, number)?;
+    let long = is_one_of_long(alloc, items, number, parent, name, numbers.as_slice())?;
+    Ok(long)
 }

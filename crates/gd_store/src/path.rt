@@ -2,15 +2,15 @@ ghost use Rattle.std.specs.Prelude.{◌≡◌, map, IfOk};
 ghost use Rattle.gd_item.specs.Nodes.{live_node, path_within, path_of};
 ghost use Rattle.gd_item.specs.Refusals.{is_too_long};
 
-use crate::look::{is_a_folder, item_at};
-use gd_item::LiveItem;
+use crate::look::is_a_folder;
+use gd_index::Index;
 use gd_names::{List, NoMemory, Path, Text, path_fits};
 use std::alloc::Global;
 
 /// The names down to a number, over at most so many folders, if they lead up to the root.
 fn names_within(
     alloc: Global,
-    items: &[LiveItem],
+    items: &Index,
     number: u64,
     steps: usize,
 ) -> Result<Option<List<Text>>, NoMemory>
@@ -22,7 +22,7 @@ fn names_within(
     if steps == 0 {
         return Ok(None);
     }
-    let Some(item) = item_at(items, number) else {
+    let Some(item) = items.get(number) else {
         return Ok(None);
     };
     if !is_a_folder(items, item.parent) {
@@ -38,7 +38,7 @@ fn names_within(
 }
 
 /// The path of a number, if its folders lead up to the root.
-pub fn path_to(alloc: Global, items: &[LiveItem], number: u64) -> Result<Option<Path>, NoMemory>
+pub fn path_to(alloc: Global, items: &Index, number: u64) -> Result<Option<Path>, NoMemory>
     ensures { IfOk result (λ found. found ≡ path_of (map live_node items.now) number) }
 {
     match names_within(alloc, items, number, items.len())? {

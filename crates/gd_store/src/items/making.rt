@@ -1,12 +1,12 @@
 ghost use Rattle.std.specs.Prelude.{◌≡◌, ◌+◌, ◌<◌, ◌^◌, length, true, Some, IfOk, OnErr};
 ghost use Rattle.gd_item.specs.Ids.{item_id};
 ghost use Rattle.gd_item.specs.Inventory.{MadeFolder, after};
-ghost use Rattle.gd_item.specs.Records.{record_at};
 ghost use Rattle.gd_item.specs.Refusals.{settled_in, settled_path, is_too_long, make_folder_refusal, make_folder_effect};
-ghost use Rattle.gd_store.specs.Changed.{with_item};
+ghost use Rattle.gd_item.specs.Sound.{IsItemMap};
 ghost use Rattle.gd_store.specs.Stands.{record_after};
 
 use super::{Items, is_bad_name, is_refused, made_by};
+use crate::edit::push_and_get;
 use crate::look::{is_a_folder, is_known};
 use gd_item::{Item, ItemId, LiveItem, StoreFault};
 use gd_names::{Conflict, NoMemory, Settle, Text};
@@ -27,9 +27,9 @@ impl Items {
         requires long { is_long ≡ is_too_long (settled_path self.now parent settle.now) }
         ensures { result ≡ make_folder_refusal self.now parent name.now behaviour }
     {
-        if !is_known(self.items.as_slice(), parent) {
+        if !is_known(&self.index, parent) {
             Some(StoreFault::NotFound)
-        } else if !is_a_folder(self.items.as_slice(), parent) {
+        } else if !is_a_folder(&self.index, parent) {
             Some(StoreFault::NotFolder)
         } else if is_bad_name(name) {
             Some(StoreFault::BadName)
@@ -72,6 +72,7 @@ impl Items {
     fn add_folder(&mut self, parent: u64, name: Text) -> Result<ItemId, NoMemory>
         requires room { length self.old.items + 1 < 100000 }
         requires number { self.old.number + 1 < 2 ^ 64 }
+        requires map { IsItemMap (after self.old (MadeFolder parent name)) }
         ensures ok { IfOk result (λ id. (id ≡ item_id self.old.next) × (self.new ≡ after self.old (MadeFolder parent name))) }
         ensures err { OnErr result (self.new ≡ self.old) }
     {
@@ -83,7 +84,7 @@ impl Items {
             change: self.number + 1,
             content: 0,
         };
-        self.items.push(item)?;
+        self.index.push(item)?;
         self.number += 1;
         self.last += 1;
         Ok(ItemId(self.last))
@@ -100,36 +101,17 @@ impl Items {
             (λ id. (id ≡ item_id self.old.next) × (self.new ≡ after self.old (make_folder_effect self.old parent name.now behaviour))) }
         ensures kept { OnErr result (self.new ≡ self.old) }
     {
+        let _ = &self.index;
         let free = self.name_of_folder(parent, name, behaviour)?;
         let id = self.add_folder(parent, free)?;
         Ok(id)
-    }
-
-    /// Adds an item, and gives its record with the path of its folder. Where memory is wanting the item is taken out
-    /// again.
-    pub fn push_and_get(&mut self, item: LiveItem) -> Result<Item, NoMemory>
-        requires { length self.old.items + 1 < 100000 }
-        ensures ok { IfOk result (λ made. (record_at item.number true (with_item self.old item) ≡ Some made) × (self.new ≡ with_item self.old item)) }
-        ensures err { OnErr result (self.new ≡ self.old) }
-    {
-        let number = item.number;
-        let count = self.items.len();
-        self.items.push(item)?;
-        match self.find_record(number, true) {
-            Ok(Some(made)) => Ok(made),
-            // The item was just added.
-            Ok(None) => unreachable!(),
-            Err(NoMemory) => {
-                self.items.truncate(count);
-                Err(NoMemory)
-            }
-        }
     }
 
     /// Adds a folder, and gives its record with the path of the folder above.
     fn add_folder_and_get(&mut self, parent: u64, name: Text) -> Result<Item, NoMemory>
         requires room { length self.old.items + 1 < 100000 }
         requires number { self.old.number + 1 < 2 ^ 64 }
+        requires map { IsItemMap (after self.old (MadeFolder parent name)) }
         ensures ok { IfOk result (λ made. (record_after self.old (MadeFolder parent name) ≡ Some made) × (self.new ≡ after self.old (MadeFolder parent name))) }
         ensures err { OnErr result (self.new ≡ self.old) }
     {
@@ -141,7 +123,7 @@ impl Items {
             change: self.number + 1,
             content: 0,
         };
-        let made = self.push_and_get(item)?;
+        let made = push_and_get(self.alloc, &mut self.index, item)?;
         self.number += 1;
         self.last += 1;
         Ok(made)
@@ -159,6 +141,7 @@ impl Items {
             × (self.new ≡ after self.old (make_folder_effect self.old parent name.now behaviour))) }
         ensures kept { OnErr result (self.new ≡ self.old) }
     {
+        let _ = &self.index;
         let free = self.name_of_folder(parent, name, behaviour)?;
         let made = self.add_folder_and_get(parent, free)?;
         Ok(made)

@@ -1,15 +1,16 @@
 ghost use Rattle.std.specs.Prelude.{◌≡◌, ◌⊎◌, ◌+◌, ◌<◌, ◌^◌, [], length, true, false, Some, None, IfOk, IfErr, OnOk, OnErr};
 ghost use Rattle.gd_item.specs.Ids.{item_id};
 ghost use Rattle.gd_item.specs.Inventory.{PutNew, PutOver, after, live_at};
-ghost use Rattle.gd_item.specs.Nodes.{path_of};
+ghost use Rattle.gd_item.specs.Nodes.{is_folder, path_of};
 ghost use Rattle.gd_item.specs.Refusals.{is_there, settled_in, settled_path, is_too_long, is_made, is_met as is_condition_met, live_named, put_over_refusal, put_under_refusal, file_effect};
 ghost use Rattle.gd_item.specs.Refused.{but_quota};
+ghost use Rattle.gd_item.specs.Sound.{IsItemMap};
 ghost use Rattle.gd_item.specs.Trees.{nodes_of};
 ghost use Rattle.gd_store.specs.Stands.{put_result, record_after};
 
 use super::{Items, is_bad_name, is_refused, made_by};
-use crate::edit::{keep_version, overwrite, restore};
-use crate::look::{change_at, content_at, is_a_folder, is_known, item_named};
+use crate::edit::{keep_version, overwrite_and_get, push_and_get};
+use crate::look::{is_a_folder, is_known};
 use gd_item::{Condition, Item, ItemId, LiveItem, StoreFault};
 use gd_names::{Bytes, Conflict, NoMemory, Settle, Text};
 
@@ -20,7 +21,7 @@ impl Items {
     fn meets_under(&self, parent: u64, name: &Text, condition: &Condition) -> Result<bool, NoMemory>
         ensures { IfOk result (λ met. met ≡ is_condition_met condition.now (live_named parent name.now self.now.items)) }
     {
-        let item = item_named(self.items.as_slice(), parent, name);
+        let item = self.index.named(parent, name);
         self.meets(condition, item)
     }
 
@@ -38,9 +39,9 @@ impl Items {
         requires long { is_long ≡ is_too_long (path_of (nodes_of self.now) number) }
         ensures { result ≡ put_over_refusal self.now number bytes.now condition.now others }
     {
-        if !is_known(self.items.as_slice(), number) {
+        if !is_known(&self.index, number) {
             Some(StoreFault::NotFound)
-        } else if is_a_folder(self.items.as_slice(), number) {
+        } else if is_a_folder(&self.index, number) {
             Some(StoreFault::NotFile)
         } else if !is_met {
             Some(StoreFault::Modified)
@@ -71,9 +72,9 @@ impl Items {
         requires long { is_long ≡ is_too_long (settled_path self.now parent settle.now) }
         ensures { result ≡ put_under_refusal self.now parent name.now bytes.now behaviour condition.now others }
     {
-        if !is_known(self.items.as_slice(), parent) {
+        if !is_known(&self.index, parent) {
             Some(StoreFault::NotFound)
-        } else if !is_a_folder(self.items.as_slice(), parent) {
+        } else if !is_a_folder(&self.index, parent) {
             Some(StoreFault::NotFolder)
         } else if is_bad_name(name) {
             Some(StoreFault::BadName)
@@ -165,6 +166,7 @@ impl Items {
         requires room { length self.old.items + 1 < 100000 }
         requires number { self.old.number + 1 < 2 ^ 64 }
         requires kept { self.old.kept + length bytes < 2 ^ 64 }
+        requires map { IsItemMap (after self.old (PutNew parent name bytes)) }
         ensures ok { IfOk result (λ id. (id ≡ item_id self.old.next) × (self.new ≡ after self.old (PutNew parent name bytes))) }
         ensures err { OnErr result (self.new ≡ self.old) }
     {
@@ -177,7 +179,7 @@ impl Items {
             change: self.number + 1,
             content: self.number + 1,
         };
-        self.items.push(item)?;
+        self.index.push(item)?;
         self.number += 1;
         self.last += 1;
         self.kept += length;
@@ -188,12 +190,13 @@ impl Items {
     fn put_bytes(&mut self, number: u64, bytes: Bytes) -> Result<(), NoMemory>
         requires number { self.old.number + 1 < 2 ^ 64 }
         requires kept { self.old.kept + length bytes < 2 ^ 64 }
+        requires map { IsItemMap (after self.old (PutOver number bytes)) }
         ensures ok { OnOk result (self.new ≡ after self.old (PutOver number bytes)) }
         ensures err { OnErr result (self.new ≡ self.old) }
     {
         let length = bytes.as_slice().len() as u64;
         self.replaced.reserve(1)?;
-        let version = overwrite(self.items.as_mut_slice(), number, self.number + 1, bytes);
+        let version = self.index.overwrite(number, self.number + 1, bytes)?;
         keep_version(&mut self.replaced, version);
         self.number += 1;
         self.kept += length;
@@ -212,6 +215,7 @@ impl Items {
             (λ put. (put ≡ (item_id number, false)) × (self.new ≡ after self.old (PutOver number bytes.now))) }
         ensures kept { OnErr result (self.new ≡ self.old) }
     {
+        let _ = &self.index;
         self.allow_over(number, bytes, condition, others)?;
         let copy = Bytes::from_slice(self.alloc, bytes)?;
         self.put_bytes(number, copy)?;
@@ -233,6 +237,7 @@ impl Items {
             × (self.new ≡ after self.old (file_effect parent name.now bytes.now (settled_in self.old parent name.now behaviour false)))) }
         ensures kept { OnErr result (self.new ≡ self.old) }
     {
+        let _ = &self.index;
         let settle = self.settle_under(parent, name, bytes, behaviour, condition, others)?;
         let copy = Bytes::from_slice(self.alloc, bytes)?;
         match settle {
@@ -254,6 +259,7 @@ impl Items {
         requires room { length self.old.items + 1 < 100000 }
         requires number { self.old.number + 1 < 2 ^ 64 }
         requires kept { self.old.kept + length bytes < 2 ^ 64 }
+        requires map { IsItemMap (after self.old (PutNew parent name bytes)) }
         ensures ok { IfOk result (λ made. (record_after self.old (PutNew parent name bytes) ≡ Some made) × (self.new ≡ after self.old (PutNew parent name bytes))) }
         ensures err { OnErr result (self.new ≡ self.old) }
     {
@@ -266,41 +272,32 @@ impl Items {
             change: self.number + 1,
             content: self.number + 1,
         };
-        let made = self.push_and_get(item)?;
+        let made = push_and_get(self.alloc, &mut self.index, item)?;
         self.number += 1;
         self.last += 1;
         self.kept += length;
         Ok(made)
     }
 
-    /// Gives a file new bytes, and gives its record with the path of its folder. Where memory is wanting the file gets
-    /// back what stood in it.
+    /// Gives a file new bytes, and gives its record with the path of its folder.
     fn put_bytes_and_get(&mut self, number: u64, bytes: Bytes) -> Result<Item, NoMemory>
         requires there { is_there number (nodes_of self.old) ≡ true }
+        requires file { is_folder number (nodes_of self.old) ≡ false }
         requires number { self.old.number + 1 < 2 ^ 64 }
         requires kept { self.old.kept + length bytes < 2 ^ 64 }
+        requires map { IsItemMap (after self.old (PutOver number bytes)) }
         ensures ok { IfOk result (λ made. (record_after self.old (PutOver number bytes) ≡ Some made) × (self.new ≡ after self.old (PutOver number bytes))) }
         ensures err { OnErr result (self.new ≡ self.old) }
     {
         let length = bytes.as_slice().len() as u64;
-        let change = change_at(self.items.as_slice(), number);
-        let content = content_at(self.items.as_slice(), number);
+        let change = self.number + 1;
         self.replaced.reserve(1)?;
-        let version = overwrite(self.items.as_mut_slice(), number, self.number + 1, bytes);
-        match self.find_record(number, true) {
-            Ok(Some(made)) => {
-                keep_version(&mut self.replaced, version);
-                self.number += 1;
-                self.kept += length;
-                Ok(made)
-            }
-            // The file is still there.
-            Ok(None) => unreachable!(),
-            Err(NoMemory) => {
-                restore(self.items.as_mut_slice(), number, change, content, version);
-                Err(NoMemory)
-            }
-        }
+        let put = overwrite_and_get(self.alloc, &mut self.index, number, change, bytes)?;
+        let (made, version) = put;
+        keep_version(&mut self.replaced, version);
+        self.number = change;
+        self.kept += length;
+        Ok(made)
     }
 
     /// Puts a file over the item of a number and gives its record, or says why not.
@@ -315,6 +312,7 @@ impl Items {
             (λ put. ((record_after self.old (PutOver number bytes.now) ≡ Some put.0) × (put.1 ≡ false)) × (self.new ≡ after self.old (PutOver number bytes.now))) }
         ensures kept { OnErr result (self.new ≡ self.old) }
     {
+        let _ = &self.index;
         self.allow_over(number, bytes, condition, others)?;
         let copy = Bytes::from_slice(self.alloc, bytes)?;
         let made = self.put_bytes_and_get(number, copy)?;
@@ -337,6 +335,7 @@ impl Items {
             × (self.new ≡ after self.old (file_effect parent name.now bytes.now (settled_in self.old parent name.now behaviour false)))) }
         ensures kept { OnErr result (self.new ≡ self.old) }
     {
+        let _ = &self.index;
         let settle = self.settle_under(parent, name, bytes, behaviour, condition, others)?;
         let copy = Bytes::from_slice(self.alloc, bytes)?;
         match settle {

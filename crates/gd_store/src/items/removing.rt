@@ -2,6 +2,7 @@ ghost use Rattle.std.specs.Prelude.{◌≡◌, ◌+◌, ◌<◌, ◌^◌, map, l
 ghost use Rattle.gd_item.specs.Inventory.{Removed, after_all, live_at};
 ghost use Rattle.gd_item.specs.Moves.{removal_order as order_for, remove_refusal, remove_effects};
 ghost use Rattle.gd_item.specs.Refusals.{is_met as is_condition_met};
+ghost use Rattle.gd_item.specs.Sound.{IsItemMap};
 
 use super::Items;
 use crate::look::is_known;
@@ -16,7 +17,7 @@ impl Items {
     fn order_of_removal(&self, number: u64) -> Result<Vec<u64>, NoMemory>
         ensures { IfOk result (λ order. order.items ≡ order_for self.now number) }
     {
-        removal_order(self.alloc, self.items.as_slice(), number)
+        removal_order(self.alloc, &self.index, number)
     }
 
     /// Why an item is not removed.
@@ -31,7 +32,7 @@ impl Items {
         requires met { is_met ≡ is_condition_met condition.now (live_at number self.now.items) }
         ensures { result ≡ remove_refusal self.now number condition.now }
     {
-        if !is_known(self.items.as_slice(), number) {
+        if !is_known(&self.index, number) {
             Some(StoreFault::NotFound)
         } else if number == 1 {
             Some(StoreFault::Root)
@@ -46,12 +47,13 @@ impl Items {
 
     /// Removes the items of these numbers, one after the other.
     fn remove_all(&mut self, order: &[u64]) -> Result<(), NoMemory>
-        requires { self.old.number + length order.now < 2 ^ 64 }
+        requires number { self.old.number + length order.now < 2 ^ 64 }
+        requires map { IsItemMap (after_all self.old (map Removed order.now)) }
         ensures ok { OnOk result (self.new ≡ after_all self.old (map Removed order.now)) }
         ensures err { OnErr result (self.new ≡ self.old) }
     {
         self.removed.reserve(order.len())?;
-        remove_each(&mut self.items, &mut self.removed, order, self.number);
+        remove_each(&mut self.index, &mut self.removed, order, self.number);
         self.number += order.len() as u64;
         Ok(())
     }
@@ -62,6 +64,10 @@ impl Items {
             (λ _. self.new ≡ after_all self.old (remove_effects self.old number)) }
         ensures kept { OnErr result (self.new ≡ self.old) }
     {
+        if number == 1 {
+            return Err(StoreFault::Root);
+        }
+        let _ = &self.index;
         let order = self.order_of_removal(number)?;
         let is_met = self.meets_at(number, condition)?;
         match self.removal_refusal(number, condition, order.as_slice(), is_met) {

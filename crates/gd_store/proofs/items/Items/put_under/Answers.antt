@@ -1,5 +1,7 @@
-use Rattle.std.proofs.Common.{sym}
+use Rattle.std.proofs.Common.{sym, subst}
 use Rattle.gd_laws.proofs.Allowed.{may-put, room-for-one, next-number, kept-fits, not-refused}
+use Rattle.gd_store.specs.Kept.{IsKept}
+use Rattle.gd_store.proofs.Kept.{new-map, under-map}
 use Rattle.gd_store.proofs.items.Items.put_under.Goals as goal
 
 pub add_file-requires-clause-room : goal.add_file-requires-clause-room
@@ -31,3 +33,15 @@ pub unreachable-requires : goal.unreachable-requires
 unreachable-requires c =
     let may = may-put c.args.self.now c.args.parent c.args.name.now c.args.bytes.now c.args.behaviour c.args.condition.now c.args.others c.in_ok-settle.settle c.in_ok-settle.ensures.ok.1 (sym c.in_ok-settle.ensures.ok.0) in
     not-refused c.in_ok-settle.settle c.in-Refuse.is may.had
+
+pub add_file-requires-clause-map : goal.add_file-requires-clause-map
+add_file-requires-clause-map c =
+    let may = may-put c.args.self.now c.args.parent c.args.name.now c.args.bytes.now c.args.behaviour c.args.condition.now c.args.others c.in_ok-settle.settle c.in_ok-settle.ensures.ok.1 (sym c.in_ok-settle.ensures.ok.0) in
+    new-map c.args.self.now c.args.parent c.args.name.now c.in-Free.free c.args.bytes.now c.args.behaviour c.args.others c.in_ok-settle.settle (subst IsKept c.self.view_is c.self.invariant) (sym c.in_ok-settle.ensures.ok.1) c.in-Free.is may
+    c.in_ok-copy.copy c.in_ok-copy.ensures
+
+pub put_bytes-requires-clause-map : goal.put_bytes-requires-clause-map
+put_bytes-requires-clause-map c =
+    let may = may-put c.args.self.now c.args.parent c.args.name.now c.args.bytes.now c.args.behaviour c.args.condition.now c.args.others c.in_ok-settle.settle c.in_ok-settle.ensures.ok.1 (sym c.in_ok-settle.ensures.ok.0) in
+    under-map c.args.self.now c.args.parent c.args.name.now c.args.bytes.now c.args.behaviour c.args.others c.in-Over.number c.in_ok-settle.settle (subst IsKept c.self.view_is c.self.invariant) (sym c.in_ok-settle.ensures.ok.1) c.in-Over.is may
+    c.in_ok-copy.copy c.in_ok-copy.ensures

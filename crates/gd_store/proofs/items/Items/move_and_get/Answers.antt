@@ -1,0 +1,5 @@
+use Rattle.gd_store.proofs.Kept.{kept-moved}
+use Rattle.gd_store.proofs.items.Items.move_and_get.Goals as goal
+
+pub invariant_of-self-2 : goal.invariant_of-self-2
+invariant_of-self-2 c = kept-moved c.args.self.now _ c.args.number c.args.parent c.args.name c.place_and_get.new.items c.self.view_is c.self.invariant c.requires.map c.in_ok-made.ensures.ok.1
