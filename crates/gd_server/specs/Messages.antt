@@ -48,11 +48,12 @@ pub record IsClosed (bytes : List ℕ) (messages : List Message) : Type 0 where
 abbrev pub IsAll : Option (List ℕ) → List ℕ → Type 0
 IsAll left read = (bytes : List ℕ) → left ≡ Some bytes → bytes ≡ read
 
--- What follows the messages, none of which asks to close, where a connection ends behind them: place is where it begins.
+-- What follows the messages, none of which asks to close, where a connection ends behind them; it begins at this place,
+-- the last of which is that of 2^64 - 1.
 abbrev pub Behind : Option (List ℕ) → List ℕ → ℕ → List ℕ → ServeEnd → Type 0
 Behind left read place rest Ended = (rest ≡ []) × IsAll left read
 Behind left read place rest Cut = IsPart rest × IsAll left read
-Behind left read place rest (BadMessage at cause) = (at ≡ min place (2 ^ 64 - 1)) × HasCause requests cause rest
+Behind left read place rest (BadMessage at cause) = (at ≡ place) × HasCause requests cause rest
 Behind left read place rest Spent = ⊥
 Behind left read place rest ReadFault = (rest ≡ []) ⊎ IsPart rest
 Behind left read place rest WriteFault = ⊥
@@ -62,7 +63,7 @@ Behind left read place rest Memory = Unit {0}
 pub record EndsBehind (left : Option (List ℕ)) (read : List ℕ) (messages : List Message) (end : ServeEnd) : Type 0 where
   pub rest : List ℕ
   pub open : IsOpen read messages rest
-  pub behind : Behind left read (length read - length rest) rest end
+  pub behind : Behind left read (min (length read - length rest) (2 ^ 64 - 1)) rest end
 
 -- these messages stand at the front of the bytes, whatever follows
 pub record Begins (read : List ℕ) (messages : List Message) : Type 0 where

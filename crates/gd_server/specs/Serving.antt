@@ -2,6 +2,7 @@
 use Rattle.std.specs.Prelude.{◌≡◌, ℕ, List, ◌++◌, take, Option, Some, Result}
 use Rattle.gd_names.specs.Streams.{Writes}
 use Rattle.gd_names.specs.declared.sink.SinkFault.{SinkFault}
+use Rattle.gd_names.specs.declared.sink.SinkFault.TheVariants as sink
 use Rattle.gd_item.specs.declared.reply.Reply.{Reply}
 use Rattle.gd_item.specs.declared.request.Request.{Request}
 use Rattle.gd_http.specs.WrittenReplies.{written_reply}
@@ -29,6 +30,11 @@ pub record Replied {A : Type 0} (Asks : A → A → Request → Reply → Type 0
   pub reply : Reply
   pub says : Says Asks before after asks reply
   pub wrote : Writes out out_now (written_reply base reply) result
+
+-- how a connection ends whose sink fails
+abbrev pub end_of : SinkFault → ServeEnd
+end_of sink.Failed = WriteFault
+end_of sink.Memory = Memory
 
 -- What was sent at this end, where due is the end to which the messages come: all, or the beginning of it where the
 -- connection broke off.

@@ -3,7 +3,7 @@ ghost use Rattle.std.specs.Prelude.{◌≡◌, ◌≤◌, ◌⊎◌, ℕ, IsErrO
 ghost use Rattle.gd_names.specs.Streams.{Rose, Writes, HasWriteCause};
 ghost use Rattle.gd_http.specs.WrittenReplies.{written_reply};
 ghost use Rattle.gd_server.specs.Replies.{Says, refusal_of, last_text};
-ghost use Rattle.gd_server.specs.Serving.{Replied, SentAt};
+ghost use Rattle.gd_server.specs.Serving.{Replied, SentAt, end_of};
 
 use crate::end::ServeEnd;
 use gd_api::Drive;
@@ -96,8 +96,7 @@ fn refusal_of(cause: MessageCause) -> Reply
 
 /// How a connection ends whose sink failed.
 pub(crate) fn end_of(fault: SinkFault) -> ServeEnd
-    ensures failed { fault ≡ SinkFault.Failed → result ≡ ServeEnd.WriteFault }
-    ensures memory { fault ≡ SinkFault.Memory → result ≡ ServeEnd.Memory }
+    ensures { result ≡ end_of fault }
 {
     match fault {
         SinkFault::Failed => ServeEnd::WriteFault,

@@ -36,7 +36,7 @@ pub(crate) fn converse<I: Source, S: Sink, A: Answers>(
         Ok(inbox) => inbox,
         Err(_) => return ServeEnd::Memory,
     };
-    for _answered in 0..MOST_MESSAGES {
+    for answered in 0..MOST_MESSAGES {
         let message = match inbox.next(source) {
             Ok(message) => message,
             Err(end) => return close(alloc, sink, wire, end),

@@ -1,6 +1,5 @@
-ghost use Rattle.std.specs.Prelude.{◌≡◌, ◌≤◌, ◌<◌, ℕ, [], length, true, false, IfOk, IfErr, OnErr, IsErrOf};
+ghost use Rattle.std.specs.Prelude.{◌≡◌, ◌≤◌, ℕ, [], IfOk, IfErr, OnErr, IsErrOf};
 ghost use Rattle.gd_names.specs.Streams.{Rose};
-ghost use Rattle.gd_server.specs.Inboxes.{unread, IsReady, Takes, Fills, FillsNot, Heard, Silent};
 
 use crate::end::ServeEnd;
 use gd_http::{Incoming, ReadStep, RequestReader};
@@ -32,6 +31,8 @@ pub(crate) struct Inbox {
 }
 
 impl Inbox {
+    ghost use Rattle.gd_server.specs.Inboxes.{unread, IsReady, Takes, Fills, FillsNot, Heard, Silent};
+
     pub(crate) fn new(alloc: Global, wire: &Wire) -> Result<Inbox, NoMemory>
         ensures { IfOk result (λ inbox. IsReady inbox × (unread inbox ≡ []) × (inbox.reader.place ≡ 0)) }
     {
@@ -83,18 +84,6 @@ impl Inbox {
         }
     }
 
-    /// What it means that the source has ended.
-    fn ended(&self) -> ServeEnd
-        ensures between { length self.now.reader.held ≡ 0 → result ≡ ServeEnd.Ended }
-        ensures inside { 0 < length self.now.reader.held → result ≡ ServeEnd.Cut }
-    {
-        if self.reader.between() {
-            ServeEnd::Ended
-        } else {
-            ServeEnd::Cut
-        }
-    }
-
     /// Reads until a message is whole. What is unread behind it is kept.
     pub(crate) fn next<I: Source>(&mut self, source: &mut I) -> Result<Message, ServeEnd>
         requires { IsReady self.old }
@@ -107,7 +96,12 @@ impl Inbox {
         for _ in 0..u64::MAX {
             match self.fill(source) {
                 Ok(true) => {}
-                Ok(false) => return Err(self.ended()),
+                Ok(false) => {
+                    if self.reader.between() {
+                        return Err(ServeEnd::Ended);
+                    }
+                    return Err(ServeEnd::Cut);
+                }
                 Err(_) => return Err(ServeEnd::ReadFault),
             }
             match self.take() {

@@ -71,7 +71,7 @@ impl<
 }
 
 /// The connection of these two streams, over the shared drive.
-fn connect<R: Wait + Copy + Drop + Send + 'static, I: Source, S: Sink>(
+fn connect<R: Copy, I: Drop, S: Drop>(
     rt: &R,
     alloc: Global,
     streams: (I, S),

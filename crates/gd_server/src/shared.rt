@@ -67,6 +67,7 @@ impl SharedDrive {
 }
 
 /// A shared drive, with what may wait for its lock.
+#[derive(Drop)]
 struct Sharing<'a, R> {
     rt: &'a R,
     drive: &'a SharedDrive,
