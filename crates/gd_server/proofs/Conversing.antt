@@ -63,15 +63,15 @@ behind_more Memory l0 l1 read more place rest gave behind = behind
 
 pub counts_behind : (end : ServeEnd) (left : Option (List ℕ)) (read rest : List ℕ) (messages : List Message) → IsOpen read messages rest
     → Behind left read (min (length read - length rest) (2 ^ 64 - 1)) rest end → Counts left read messages end
-counts_behind Ended left read rest messages open behind = inr (record { rest = rest; open = open; behind = behind })
-counts_behind Cut left read rest messages open behind = record { rest = rest; open = open; behind = behind }
-counts_behind (BadMessage place cause) left read rest messages open behind = record { rest = rest; open = open; behind = behind }
-counts_behind Spent left read rest messages open behind = absurd behind
-counts_behind ReadFault left read rest messages open behind = record { rest = rest; open = open; behind = behind }
-counts_behind WriteFault left read rest messages open behind = absurd behind
-counts_behind Memory left read rest messages open behind =
-    let few = open.few in
-    inl (record { rest = rest; front = open.front }, omega arith)
+counts_behind Ended left read rest messages before behind = inr (record { rest = rest; before = before; behind = behind })
+counts_behind Cut left read rest messages before behind = record { rest = rest; before = before; behind = behind }
+counts_behind (BadMessage place cause) left read rest messages before behind = record { rest = rest; before = before; behind = behind }
+counts_behind Spent left read rest messages before behind = absurd behind
+counts_behind ReadFault left read rest messages before behind = record { rest = rest; before = before; behind = behind }
+counts_behind WriteFault left read rest messages before behind = absurd behind
+counts_behind Memory left read rest messages before behind =
+    let few = before.few in
+    inl (record { rest = rest; front = before.front }, omega arith)
 
 -- ---- message by message
 
@@ -155,7 +155,7 @@ module _ {A : Type 0} (Asks : A → A → Request → Reply → Type 0) (base : 
       let read = so_far.read ++ silent.read in
       let rest = unread inbox ++ silent.read in
       let within = front_within so_far.messages so_far.read (unread inbox) so_far.front in
-      let open : IsOpen read so_far.messages rest = record { front = front_wider so_far.messages so_far.read (unread inbox) silent.read so_far.front; few = omega (arith, so_far.many) } in
+      let before : IsOpen read so_far.messages rest = record { front = front_wider so_far.messages so_far.read (unread inbox) silent.read so_far.front; few = omega (arith, so_far.many) } in
       let place : inbox.reader.place ≡ min (length read - length rest) (2 ^ 64 - 1) =
           place_after so_far.read (unread inbox) silent.read [] rest inbox.reader.place inbox.reader.place within refl so_far.place (omega (arith, so_far.place)) in
       let behind : Behind l0 read (min (length read - length rest) (2 ^ 64 - 1)) rest due =
@@ -165,7 +165,7 @@ module _ {A : Type 0} (Asks : A → A → Request → Reply → Type 0) (base : 
         gave = gave_more l0 l1 l2 so_far.read silent.read so_far.gave silent.gave;
         messages = so_far.messages;
         due = due;
-        counts = counts_behind due l0 read rest so_far.messages open behind;
+        counts = counts_behind due l0 read rest so_far.messages before behind;
         replies = so_far.replies;
         answered = so_far.answered;
         sent = sent_at end due o0 o1 o2 (texts base so_far.replies) (last_text base due) so_far.sent sent;

@@ -34,10 +34,10 @@ asks_logs who heard log a b size request reply same handles =
         stands = served.1 who (heard log);
         logs = record { served = true; step = refl; replied = served.0 ∙ ap (λ (n : ℕ). answer (state_of log) n request) same };
       }
-      | inr not ↦ record {
+      | inr lacks ↦ record {
         next = log ++ Ask who request false (heard log) ∷ [];
-        stands = not.2 who (heard log);
-        logs = record { served = false; step = refl; replied = not.0 };
+        stands = lacks.2 who (heard log);
+        logs = record { served = false; step = refl; replied = lacks.0 };
       }
     ]
 

@@ -22,7 +22,7 @@ pending inbox = inbox.reader.held ++ unread inbox
 
 -- the reader stands between two messages, and goes on
 pub record IsReady (inbox : Inbox) : Type 0 where
-  pub open : inbox.reader.state ≡ Open
+  pub state : inbox.reader.state ≡ Open
   pub held : inbox.reader.held ≡ []
 
 -- Something is unread, and more was read where nothing was; or nothing is, since the source had no more.

@@ -62,7 +62,7 @@ Behind left read place rest Memory = Unit {0}
 -- the connection ends behind these messages, since this stands there
 pub record EndsBehind (left : Option (List ℕ)) (read : List ℕ) (messages : List Message) (end : ServeEnd) : Type 0 where
   pub rest : List ℕ
-  pub open : IsOpen read messages rest
+  pub before : IsOpen read messages rest
   pub behind : Behind left read (min (length read - length rest) (2 ^ 64 - 1)) rest end
 
 -- these messages stand at the front of the bytes, whatever follows

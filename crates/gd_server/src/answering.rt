@@ -104,6 +104,21 @@ pub(crate) fn end_of(fault: SinkFault) -> ServeEnd
     }
 }
 
+/// Refuses what is no message.
+fn refuse<S: Sink>(
+    alloc: Global,
+    sink: &mut S,
+    wire: &Wire,
+    cause: MessageCause,
+) -> Result<(), SinkFault>
+    ensures bytes { Writes (S.written sink.old) (S.written sink.new) (written_reply wire.now.base (refusal_of cause)) result }
+    ensures cause { HasWriteCause (S.faults sink.old) (S.faults sink.new) result }
+    ensures goes { S.goes sink.old sink.new }
+{
+    let refusal = refusal_of(cause);
+    send(alloc, sink, wire, &refusal)
+}
+
 /// Ends a connection behind the last message: bytes that are no message are refused.
 pub(crate) fn close<S: Sink>(alloc: Global, sink: &mut S, wire: &Wire, end: ServeEnd) -> ServeEnd
     ensures sent { SentAt result end (S.written sink.old) (S.written sink.new) (last_text wire.now.base end) }
@@ -113,12 +128,10 @@ pub(crate) fn close<S: Sink>(alloc: Global, sink: &mut S, wire: &Wire, end: Serv
     ensures goes { S.goes sink.old sink.new }
 {
     match end {
-        ServeEnd::BadMessage { place: _, cause } => {
-            match send(alloc, sink, wire, &refusal_of(cause)) {
-                Ok(()) => end,
-                Err(fault) => end_of(fault),
-            }
-        }
+        ServeEnd::BadMessage { place: _, cause } => match refuse(alloc, sink, wire, cause) {
+            Ok(()) => end,
+            Err(fault) => end_of(fault),
+        },
         _ => end,
     }
 }

@@ -1,7 +1,8 @@
-ghost use Rattle.std.specs.Prelude.{◌≡◌, ◌≤◌, ℕ, [], IfOk, IfErr, OnErr, IsErrOf};
+ghost use Rattle.std.specs.Prelude.{◌≡◌, ◌≤◌, ℕ, [], length, slice_range, IfOk, IfErr, OnErr, IsErrOf};
 ghost use Rattle.gd_names.specs.Streams.{Rose};
 
 use crate::end::ServeEnd;
+use gd_frame::ReadState;
 use gd_http::{Incoming, ReadStep, RequestReader};
 use gd_json::Wire;
 use gd_names::{NoMemory, Source, SourceFault};
@@ -28,6 +29,16 @@ pub(crate) struct Inbox {
     to: usize,
     ghost within: { from ≤ to },
     ghost filled: { to ≤ 65536 },
+    ghost sized: { length room ≡ 65536 },
+}
+
+/// The part of a room from here and up to there.
+fn part(room: &[u8], from: usize, to: usize) -> &[u8]
+    requires within { from ≤ to }
+    requires filled { to ≤ length room.now }
+    ensures { result.now ≡ slice_range room.now from to }
+{
+    &room[from..to]
 }
 
 impl Inbox {
@@ -59,9 +70,12 @@ impl Inbox {
             return Ok(true);
         }
         let count = source.read(&mut self.room)?;
+        if count == 0 {
+            return Ok(false);
+        }
         self.from = 0;
         self.to = count;
-        Ok(count > 0)
+        Ok(true)
     }
 
     /// Takes the next message out of what is unread, where one ends there.
@@ -69,7 +83,8 @@ impl Inbox {
         requires { self.old.reader.state ≡ ReadState.Open }
         ensures { Takes self.old result self.new }
     {
-        match self.reader.feed(&self.room[self.from..self.to]) {
+        let unread = part(&self.room, self.from, self.to);
+        match self.reader.feed(unread) {
             Ok(ReadStep::Need) => {
                 self.from = self.to;
                 Ok(ReadStep::Need)
