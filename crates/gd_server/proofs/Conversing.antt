@@ -4,12 +4,13 @@ use Rattle.std.proofs.Math.Seq.{take-append-add, take-length}
 use Rattle.gd_names.specs.Streams.{Writes}
 use Rattle.gd_names.specs.declared.sink.SinkFault.{SinkFault}
 use Rattle.gd_names.specs.declared.sink.SinkFault.TheVariants as sink
+use Rattle.gd_frame.specs.declared.message.MessageCause.{MessageCause}
 use Rattle.gd_http.specs.WrittenReplies.{written_reply}
 use Rattle.gd_item.specs.declared.reply.Reply.{Reply}
 use Rattle.gd_item.specs.declared.request.Request.{Request}
 use Rattle.gd_server.specs.Inboxes.{unread, IsReady, Heard, Silent}
 use Rattle.gd_server.specs.Messages.{most_messages, IsMessage, Front, IsOpen, IsClosed, IsAll, Behind, EndsBehind, Counts, BeginsCounted}
-use Rattle.gd_server.specs.Replies.{Says, Answers, texts, last_text}
+use Rattle.gd_server.specs.Replies.{Says, Answers, texts, refusal_of, last_text}
 use Rattle.gd_server.specs.Serving.{Gave, Sent, SentPart, SentAt, Replied, end_of, Serves}
 use Rattle.gd_server.specs.declared.inbox.Inbox.{Inbox}
 use Rattle.gd_server.specs.declared.inbox.Message.{Message}
@@ -50,6 +51,17 @@ sent_at Memory due o0 o1 o2 xs ys one two = part_more o0 o1 o2 xs ys one two
 pub whole_part : (o0 o1 : Option (List ℕ)) (xs : List ℕ) → Sent o0 o1 xs → SentPart o0 o1 xs
 whole_part o0 o1 xs sent = record { told = λ old at. (length xs, sent.told old at ∙ ap (λ (l : List ℕ). Some (old ++ l)) (sym (take-length xs))) }
 
+-- what was sent where the sink failed
+sent_broken : (T : Type 0) (fault : SinkFault) (due : ServeEnd) (o0 o1 : Option (List ℕ)) (text : List ℕ) → Writes o0 o1 text {T = T} (Err fault) → SentAt (end_of fault) due o0 o1 text
+sent_broken T sink.Failed due o0 o1 text wrote = record { told = wrote.err }
+sent_broken T sink.Memory due o0 o1 text wrote = record { told = wrote.err }
+
+pub close_broken : (T : Type 0) (base : List ℕ) (end result : ServeEnd) (place : ℕ) (cause : MessageCause) (fault : SinkFault) (o0 o1 : Option (List ℕ)) → end ≡ BadMessage place cause → result ≡ end_of fault
+    → Writes o0 o1 (written_reply base (refusal_of cause)) {T = T} (Err fault) → SentAt result end o0 o1 (last_text base end)
+close_broken T base end result place cause fault o0 o1 is ended wrote =
+    subst (λ r. SentAt r end o0 o1 (last_text base end)) (sym ended)
+    (subst (λ (l : List ℕ). SentAt (end_of fault) end o0 o1 l) (sym (ap (last_text base) is)) (sent_broken T fault end o0 o1 (written_reply base (refusal_of cause)) wrote))
+
 -- ---- what stands behind the messages
 
 pub behind_more : (end : ServeEnd) (l0 l1 : Option (List ℕ)) (read more : List ℕ) (place : ℕ) (rest : List ℕ) → Gave l0 l1 read → Behind l1 more place rest end → Behind l0 (read ++ more) place rest end
@@ -82,14 +94,14 @@ pub record SoFar {A : Type 0} (Asks : A → A → Request → Reply → Type 0) 
   pub messages : List Message
   pub many : length messages ≡ count
   pub front : Front read messages (unread inbox)
-  pub ready : IsReady inbox
+  pub ready : IsReady inbox.reader
   pub place : inbox.reader.place ≡ min (length read - length (unread inbox)) (2 ^ 64 - 1)
   pub replies : List Reply
   pub answered : Answers Asks before messages replies now
   pub sent : Sent out out_now (texts base replies)
 
 module _ {A : Type 0} (Asks : A → A → Request → Reply → Type 0) (base : List ℕ) where
-  pub so_far_none : (left : Option (List ℕ)) (a : A) (out : Option (List ℕ)) (inbox : Inbox) → IsReady inbox → unread inbox ≡ [] → inbox.reader.place ≡ 0
+  pub so_far_none : (left : Option (List ℕ)) (a : A) (out : Option (List ℕ)) (inbox : Inbox) → IsReady inbox.reader → unread inbox ≡ [] → inbox.reader.place ≡ 0
       → SoFar Asks base left left a a out out inbox 0
   so_far_none left a out inbox ready nothing place = record {
     read = [];
@@ -237,13 +249,14 @@ module _ {A : Type 0} (Asks : A → A → Request → Reply → Type 0) (base : 
   }
 
   -- as many messages as a connection may have were answered
-  pub serves_spent : (l0 l1 : Option (List ℕ)) (a b : A) (o0 o1 : Option (List ℕ)) (inbox : Inbox) → SoFar Asks base l0 l1 a b o0 o1 inbox most_messages → Serves Asks base l0 l1 a b o0 o1 Spent
-  serves_spent l0 l1 a b o0 o1 inbox so_far = record {
+  pub serves_spent : (l0 l1 : Option (List ℕ)) (a b : A) (o0 o1 : Option (List ℕ)) (inbox : Inbox) (count : ℕ) → SoFar Asks base l0 l1 a b o0 o1 inbox count → count ≡ most_messages
+      → Serves Asks base l0 l1 a b o0 o1 Spent
+  serves_spent l0 l1 a b o0 o1 inbox count so_far all = record {
     read = so_far.read;
     gave = so_far.gave;
     messages = so_far.messages;
     due = Spent;
-    counts = (record { rest = unread inbox; front = so_far.front }, so_far.many);
+    counts = (record { rest = unread inbox; front = so_far.front }, so_far.many ∙ all);
     replies = so_far.replies;
     answered = so_far.answered;
     sent = (refl, subst (λ (l : List ℕ). Sent o0 o1 l) (sym (append-nil (texts base so_far.replies))) so_far.sent);

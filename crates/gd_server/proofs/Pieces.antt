@@ -8,7 +8,7 @@ use Rattle.gd_frame.specs.Messages.{HasNoMessage, HasCause, Awaits}
 use Rattle.gd_frame.specs.declared.step.ReadState.TheVariants.{Open}
 use Rattle.gd_frame.specs.declared.step.ReadStep.TheVariants.{Need, Done, Bad}
 use Rattle.gd_frame.specs.declared.message.MessageCause.{MessageCause}
-use Rattle.gd_http.specs.Hearing.{RequestBytes, RequestCloses, Hears}
+use Rattle.gd_http.specs.Hearing.{Hearing, RequestBytes, RequestCloses, Hears}
 use Rattle.gd_http.specs.declared.incoming.Incoming.{Incoming}
 use Rattle.gd_server.specs.Inboxes.{unread, pending, IsReady, Fills, FillsNot, Takes, Heard, Silent}
 use Rattle.gd_server.specs.Messages.{IsPart, IsAll}
@@ -108,11 +108,13 @@ failed l0 l1 old new reader nothing still told = record {
 
 -- ---- what the reader takes
 
-pub took_need : (old new : Inbox) (piece : List ℕ) → piece ≡ unread old → new.to ≤ new.from → Hears RequestBytes old.reader piece (Ok Need) new.reader → Takes old (Ok Need) new
-took_need old new piece is still hears =
-    let nothing = nothing_unread new.room new.from new.to still in
+pub took_need : (old : Inbox) (reader : Hearing) (piece : List ℕ) → piece ≡ unread old → Hears RequestBytes old.reader piece (Ok Need) reader
+    → (reader.held ++ slice_range old.room old.to old.to ≡ pending old) × (slice_range old.room old.to old.to ≡ []) × HasNoMessage requests (pending old) × Awaits requests (pending old)
+    × (reader.state ≡ Open) × (reader.place ≡ old.reader.place)
+took_need old reader piece is hears =
+    let nothing = nothing_unread old.room old.to old.to (omega arith) in
     let all : old.reader.held ++ piece ≡ pending old = ap (λ (l : List ℕ). old.reader.held ++ l) is in (
-      ap (λ (l : List ℕ). new.reader.held ++ l) nothing ∙ append-nil new.reader.held ∙ hears.bytes.2 ∙ all,
+      ap (λ (l : List ℕ). reader.held ++ l) nothing ∙ append-nil reader.held ∙ hears.bytes.2 ∙ all,
       nothing,
       subst (λ (l : List ℕ). HasNoMessage requests l) all hears.bytes.0,
       subst (λ (l : List ℕ). Awaits requests l) all hears.bytes.1,
@@ -120,29 +122,24 @@ took_need old new piece is still hears =
       hears.place,
     )
 
-pub took_done : (old new : Inbox) (piece : List ℕ) (asks : Incoming) (closes : Bool) (used : ℕ) → piece ≡ unread old → new.room ≡ old.room → new.from ≡ old.from + used → new.to ≡ old.to → old.from ≤ old.to
-    → closes ≡ new.reader.closes → Hears RequestBytes old.reader piece (Ok (Done asks used)) new.reader → Takes old (Ok (Done (record { asks = asks; closes = closes }) used)) new
-took_done old new piece asks closes used is room from to ordered closing hears =
+pub took_done : (old : Inbox) (reader : Hearing) (piece : List ℕ) (asks : Incoming) (closes : Bool) (used : ℕ) → piece ≡ unread old → old.from ≤ old.to → closes ≡ reader.closes
+    → Hears RequestBytes old.reader piece (Ok (Done asks used)) reader
+    → (first : List ℕ) × (pending old ≡ first ++ slice_range old.room (old.from + used) old.to) × IsMessage first (record { asks = asks; closes = closes }) × IsReady reader
+    × (reader.place ≡ min (old.reader.place + length first) (2 ^ 64 - 1))
+took_done old reader piece asks closes used is ordered closing hears =
     let within : used ≤ length piece = hears.bytes.0 in
     let fits : old.from + used ≤ old.to = used_within old.room old.from old.to used ordered (omega (arith, ap length is)) in
-    let behind : unread new ≡ slice_range old.room (old.from + used) old.to =
-        ap (λ (l : List ℕ). slice_range l new.from new.to) room ∙ ap (λ (n : ℕ). slice_range old.room n new.to) from ∙ ap (slice_range old.room (old.from + used)) to in
-    let parts : piece ≡ take used piece ++ unread new =
-        is ∙ used_parts old.room old.from old.to used fits
-        ∙ ap (λ (l : List ℕ). take used l ++ slice_range old.room (old.from + used) old.to) (sym is)
-        ∙ ap (λ (l : List ℕ). take used piece ++ l) (sym behind) in
+    let behind = slice_range old.room (old.from + used) old.to in
+    let parts : piece ≡ take used piece ++ behind =
+        is ∙ used_parts old.room old.from old.to used fits ∙ ap (λ (l : List ℕ). take used l ++ behind) (sym is) in
     let first = old.reader.held ++ take used piece in
     let count : length first ≡ length old.reader.held + used = omega (arith, length-append old.reader.held (take used piece), length-take-le used piece within) in (
       first,
-      ap (λ (l : List ℕ). old.reader.held ++ l) (sym is ∙ parts) ∙ sym (append_assoc old.reader.held (take used piece) (unread new)),
+      ap (λ (l : List ℕ). old.reader.held ++ l) (sym is ∙ parts) ∙ sym (append_assoc old.reader.held (take used piece) behind),
       (hears.bytes.1, subst (λ b. RequestCloses first b) (sym closing) hears.closes),
       record { state = hears.state; held = hears.bytes.2 },
       hears.place ∙ ap (λ (n : ℕ). min (old.reader.place + n) (2 ^ 64 - 1)) (sym count),
     )
-
-pub took_bad : (old new : Inbox) (piece : List ℕ) (at : ℕ) (cause : MessageCause) → piece ≡ unread old → Hears RequestBytes old.reader piece (Ok (Bad at cause)) new.reader → Takes old (Ok (Bad at cause)) new
-took_bad old new piece at cause is hears =
-    (hears.bytes.0, subst (λ (l : List ℕ). HasCause requests cause l) (ap (λ (l : List ℕ). old.reader.held ++ l) is) hears.bytes.1)
 
 -- ---- until a message is whole
 
@@ -155,7 +152,7 @@ pub record Waits (left left_now : Option (List ℕ)) (old now : Inbox) : Type 0 
   pub state : now.reader.state ≡ Open
   pub place : now.reader.place ≡ old.reader.place
 
-pub waits_none : (left : Option (List ℕ)) (inbox : Inbox) → IsReady inbox → Waits left left inbox inbox
+pub waits_none : (left : Option (List ℕ)) (inbox : Inbox) → IsReady inbox.reader → Waits left left inbox inbox
 waits_none left inbox ready = record {
   read = [];
   gave = gave_none left;

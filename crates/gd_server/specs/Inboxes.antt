@@ -6,6 +6,7 @@ use Rattle.gd_frame.specs.Messages.{HasNoMessage, HasCause, Awaits}
 use Rattle.gd_frame.specs.declared.step.ReadState.TheVariants.{Open}
 use Rattle.gd_frame.specs.declared.step.ReadStep.{ReadStep}
 use Rattle.gd_frame.specs.declared.step.ReadStep.TheVariants.{Need, Done, Bad}
+use Rattle.gd_http.specs.Hearing.{Hearing}
 use Rattle.gd_server.specs.Messages.{IsMessage, IsAll, Behind}
 use Rattle.gd_server.specs.Serving.{Gave}
 use Rattle.gd_server.specs.declared.inbox.Inbox.{Inbox}
@@ -21,9 +22,9 @@ abbrev pub pending : Inbox → List ℕ
 pending inbox = inbox.reader.held ++ unread inbox
 
 -- the reader stands between two messages, and goes on
-pub record IsReady (inbox : Inbox) : Type 0 where
-  pub state : inbox.reader.state ≡ Open
-  pub held : inbox.reader.held ≡ []
+pub record IsReady (reader : Hearing) : Type 0 where
+  pub state : reader.state ≡ Open
+  pub held : reader.held ≡ []
 
 -- Something is unread, and more was read where nothing was; or nothing is, since the source had no more.
 pub record Fills (left left_now : Option (List ℕ)) (old new : Inbox) (some : Bool) : Type 0 where
@@ -47,7 +48,7 @@ Takes old (Ok Need) new =
     (pending new ≡ pending old) × (unread new ≡ []) × HasNoMessage requests (pending old) × Awaits requests (pending old) × (new.reader.state ≡ Open)
     × (new.reader.place ≡ old.reader.place)
 Takes old (Ok (Done message used)) new =
-    (first : List ℕ) × (pending old ≡ first ++ unread new) × IsMessage first message × IsReady new
+    (first : List ℕ) × (pending old ≡ first ++ unread new) × IsMessage first message × IsReady new.reader
     × (new.reader.place ≡ min (old.reader.place + length first) (2 ^ 64 - 1))
 Takes old (Ok (Bad at cause)) new = (at ≡ old.reader.place) × HasCause requests cause (pending old)
 Takes old (Err e) new = Unit {0}
@@ -59,7 +60,7 @@ pub record Heard (left left_now : Option (List ℕ)) (old new : Inbox) (message 
   pub first : List ℕ
   pub parts : unread old ++ read ≡ first ++ unread new
   pub is : IsMessage first message
-  pub ready : IsReady new
+  pub ready : IsReady new.reader
   pub place : new.reader.place ≡ min (old.reader.place + length first) (2 ^ 64 - 1)
 
 -- none came: these bytes were read, and this is the end

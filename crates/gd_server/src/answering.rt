@@ -6,6 +6,7 @@ ghost use Rattle.gd_server.specs.Replies.{Says, refusal_of, last_text};
 ghost use Rattle.gd_server.specs.Serving.{Replied, SentAt, end_of};
 
 use crate::end::ServeEnd;
+use crate::inbox::Message;
 use gd_api::Drive;
 use gd_http::{Incoming, MessageCause, write_reply};
 use gd_item::{ErrorCode, Reply, Request};
@@ -64,19 +65,19 @@ fn send<S: Sink>(alloc: Global, sink: &mut S, wire: &Wire, reply: &Reply) -> Res
     }
 }
 
-/// Answers a message.
+/// Answers a message, and lets it go.
 pub(crate) fn answer<S: Sink, A: Answers>(
     alloc: Global,
     sink: &mut S,
     wire: &Wire,
     answers: &mut A,
-    asks: &Incoming,
+    message: Message,
 ) -> Result<(), SinkFault>
-    ensures replied { Replied A.asks wire.now.base answers.old answers.new asks.now (S.written sink.old) (S.written sink.new) result }
+    ensures replied { Replied A.asks wire.now.base answers.old answers.new message.asks (S.written sink.old) (S.written sink.new) result }
     ensures cause { HasWriteCause (S.faults sink.old) (S.faults sink.new) result }
     ensures goes { S.goes sink.old sink.new }
 {
-    let reply = reply_to(answers, asks);
+    let reply = reply_to(answers, &message.asks);
     send(alloc, sink, wire, &reply)
 }
 

@@ -41,11 +41,12 @@ pub(crate) fn converse<I: Source, S: Sink, A: Answers>(
             Ok(message) => message,
             Err(end) => return close(alloc, sink, wire, end),
         };
-        match answer(alloc, sink, wire, answers, &message.asks) {
+        let closes = message.closes;
+        match answer(alloc, sink, wire, answers, message) {
             Ok(()) => {}
             Err(fault) => return end_of(fault),
         }
-        if message.closes {
+        if closes {
             return ServeEnd::Ended;
         }
     }

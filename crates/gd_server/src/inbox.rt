@@ -45,7 +45,7 @@ impl Inbox {
     ghost use Rattle.gd_server.specs.Inboxes.{unread, IsReady, Takes, Fills, FillsNot, Heard, Silent};
 
     pub(crate) fn new(alloc: Global, wire: &Wire) -> Result<Inbox, NoMemory>
-        ensures { IfOk result (λ inbox. IsReady inbox × (unread inbox ≡ []) × (inbox.reader.place ≡ 0)) }
+        ensures { IfOk result (λ inbox. IsReady inbox.reader × (unread inbox ≡ []) × (inbox.reader.place ≡ 0)) }
     {
         let wire = Wire {
             base: wire.base.clone()?,
@@ -101,7 +101,7 @@ impl Inbox {
 
     /// Reads until a message is whole. What is unread behind it is kept.
     pub(crate) fn next<I: Source>(&mut self, source: &mut I) -> Result<Message, ServeEnd>
-        requires { IsReady self.old }
+        requires { IsReady self.old.reader }
         ensures ok { IfOk result (Heard (I.left source.old) (I.left source.new) self.old self.new) }
         ensures err { IfErr result (Silent (I.left source.old) (I.left source.new) self.old) }
         ensures later { I.faults source.old ≤ I.faults source.new }
