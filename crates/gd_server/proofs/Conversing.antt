@@ -169,9 +169,9 @@ module _ {A : Type 0} (Asks : A → A → Request → Reply → Type 0) (base : 
       let within = front_within so_far.messages so_far.read (unread inbox) so_far.front in
       let before : IsOpen read so_far.messages rest = record { front = front_wider so_far.messages so_far.read (unread inbox) silent.read so_far.front; few = omega (arith, so_far.many) } in
       let place : inbox.reader.place ≡ min (length read - length rest) (2 ^ 64 - 1) =
-          place_after so_far.read (unread inbox) silent.read [] rest inbox.reader.place inbox.reader.place within refl so_far.place (omega (arith, so_far.place)) in
+      place_after so_far.read (unread inbox) silent.read [] rest inbox.reader.place inbox.reader.place within refl so_far.place (omega (arith, so_far.place)) in
       let behind : Behind l0 read (min (length read - length rest) (2 ^ 64 - 1)) rest due =
-          subst (λ (n : ℕ). Behind l0 read n rest due) place (behind_more due l0 l1 so_far.read silent.read inbox.reader.place rest so_far.gave silent.behind) in
+      subst (λ (n : ℕ). Behind l0 read n rest due) place (behind_more due l0 l1 so_far.read silent.read inbox.reader.place rest so_far.gave silent.behind) in
       record {
         read = read;
         gave = gave_more l0 l1 l2 so_far.read silent.read so_far.gave silent.gave;

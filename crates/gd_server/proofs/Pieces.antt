@@ -11,7 +11,7 @@ use Rattle.gd_frame.specs.declared.message.MessageCause.{MessageCause}
 use Rattle.gd_http.specs.Hearing.{Hearing, RequestBytes, RequestCloses, Hears}
 use Rattle.gd_http.specs.declared.incoming.Incoming.{Incoming}
 use Rattle.gd_server.specs.Inboxes.{unread, pending, IsReady, Fills, FillsNot, Takes, Heard, Silent}
-use Rattle.gd_server.specs.Messages.{IsPart, IsAll}
+use Rattle.gd_server.specs.Messages.{IsMessage, IsPart, IsAll}
 use Rattle.gd_server.specs.Serving.{Gave}
 use Rattle.gd_server.specs.declared.inbox.Inbox.{Inbox}
 use Rattle.gd_server.specs.declared.inbox.Message.{Message}
@@ -44,7 +44,7 @@ used_parts xs from to used within =
     let rest = to - (from + used) in
     let count : to - from ≡ used + rest = omega arith in
     let behind : drop used (slice_range xs from to) ≡ slice_range xs (from + used) to =
-        ap (λ (n : ℕ). drop used (take n (drop from xs))) count ∙ (drop-take used rest (drop from xs) ∙ ap (take rest) (drop-drop used from xs)) in
+    ap (λ (n : ℕ). drop used (take n (drop from xs))) count ∙ (drop-take used rest (drop from xs) ∙ ap (take rest) (drop-drop used from xs)) in
     sym (take-append-drop used (slice_range xs from to)) ∙ ap (λ (l : List ℕ). take used (slice_range xs from to) ++ l) behind
 
 nothing_unread : (xs : List ℕ) (from to : ℕ) → to ≤ from → slice_range xs from to ≡ []
@@ -131,12 +131,12 @@ took_done old reader piece asks closes used is ordered closing hears =
     let fits : old.from + used ≤ old.to = used_within old.room old.from old.to used ordered (omega (arith, ap length is)) in
     let behind = slice_range old.room (old.from + used) old.to in
     let parts : piece ≡ take used piece ++ behind =
-        is ∙ used_parts old.room old.from old.to used fits ∙ ap (λ (l : List ℕ). take used l ++ behind) (sym is) in
+    is ∙ used_parts old.room old.from old.to used fits ∙ ap (λ (l : List ℕ). take used l ++ behind) (sym is) in
     let first = old.reader.held ++ take used piece in
     let count : length first ≡ length old.reader.held + used = omega (arith, length-append old.reader.held (take used piece), length-take-le used piece within) in (
       first,
       ap (λ (l : List ℕ). old.reader.held ++ l) (sym is ∙ parts) ∙ sym (append_assoc old.reader.held (take used piece) behind),
-      (hears.bytes.1, subst (λ b. RequestCloses first b) (sym closing) hears.closes),
+      (hears.bytes.1, subst (λ (b : Bool). RequestCloses first b) (sym closing) hears.closes),
       record { state = hears.state; held = hears.bytes.2 },
       hears.place ∙ ap (λ (n : ℕ). min (old.reader.place + n) (2 ^ 64 - 1)) (sym count),
     )
@@ -261,7 +261,7 @@ silent_cut l0 l1 l2 old now new waits fills some = record {
 pub silent_failed : (l0 l1 l2 : Option (List ℕ)) (old now new : Inbox) → Waits l0 l1 old now → FillsNot l1 l2 now new → Silent l0 l2 old ReadFault
 silent_failed l0 l1 l2 old now new waits fails =
     let all : unread old ++ (waits.read ++ []) ≡ now.reader.held =
-        ap (λ (l : List ℕ). unread old ++ l) (append-nil waits.read) ∙ waits.parts ∙ held_all now fails.nothing in
+    ap (λ (l : List ℕ). unread old ++ l) (append-nil waits.read) ∙ waits.parts ∙ held_all now fails.nothing in
     record {
       read = waits.read ++ [];
       gave = gave_more l0 l1 l2 waits.read [] waits.gave fails.gave;

@@ -65,6 +65,22 @@ fn send<S: Sink>(alloc: Global, sink: &mut S, wire: &Wire, reply: &Reply) -> Res
     }
 }
 
+/// Replies to a message.
+fn reply<S: Sink, A: Answers>(
+    alloc: Global,
+    sink: &mut S,
+    wire: &Wire,
+    answers: &mut A,
+    asks: &Incoming,
+) -> Result<(), SinkFault>
+    ensures replied { Replied A.asks wire.now.base answers.old answers.new asks.now (S.written sink.old) (S.written sink.new) result }
+    ensures cause { HasWriteCause (S.faults sink.old) (S.faults sink.new) result }
+    ensures goes { S.goes sink.old sink.new }
+{
+    let reply = reply_to(answers, asks);
+    send(alloc, sink, wire, &reply)
+}
+
 /// Answers a message, and lets it go.
 pub(crate) fn answer<S: Sink, A: Answers>(
     alloc: Global,
@@ -77,8 +93,9 @@ pub(crate) fn answer<S: Sink, A: Answers>(
     ensures cause { HasWriteCause (S.faults sink.old) (S.faults sink.new) result }
     ensures goes { S.goes sink.old sink.new }
 {
-    let reply = reply_to(answers, &message.asks);
-    send(alloc, sink, wire, &reply)
+    let sent = reply(alloc, sink, wire, answers, &message.asks);
+    drop(message);
+    sent
 }
 
 /// The reply that refuses what is no message.
@@ -131,7 +148,8 @@ pub(crate) fn close<S: Sink>(alloc: Global, sink: &mut S, wire: &Wire, end: Serv
     match end {
         ServeEnd::BadMessage { place: _, cause } => match refuse(alloc, sink, wire, cause) {
             Ok(()) => end,
-            Err(fault) => end_of(fault),
+            Err(SinkFault::Failed) => ServeEnd::WriteFault,
+            Err(SinkFault::Memory) => ServeEnd::Memory,
         },
         _ => end,
     }

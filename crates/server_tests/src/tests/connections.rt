@@ -86,10 +86,7 @@ fn messages_are_answered_in_turn(rt: HostRuntime) -> Result<(), Fail> {
             b"PUT /v1.0/upload/1 HTTP/1.1\r\nContent-Length: 67108865\r\n\r\n",
             "413 | BadMessage 0 Body",
         ),
-        (
-            b"GET /v1.0/me/drive/root HTTP/1.1\r\n\r\n\r\n",
-            "200 | Cut",
-        ),
+        (b"GET /v1.0/me/drive/root HTTP/1.1\r\n\r\n\r\n", "200 | Cut"),
         (
             b"GET /v1.0/me/drive/root HTTP/1.1\r\n\r\n\r\n\nGET /v1.0/me/drive/root HTTP/2",
             "200 400 | BadMessage 36 Head",
