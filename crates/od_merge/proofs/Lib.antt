@@ -10,3 +10,6 @@ pub mod Digests
 pub mod Renames
 pub mod Copying
 pub mod NotKept
+pub mod Order
+pub mod Proper
+pub mod Agreements
