@@ -62,13 +62,13 @@ long-by tree root [] some = absurd (false≢true (sym (ap (λ (x : Option Conten
 long-by tree root (name ∷ names) some = lt-ltb 0 (length (name ∷ names)) (omega arith)
 
 -- what goes is a file or a folder that has nothing, or the other kind, as its target
-gone-other : (x t : Option Content) → is_some x ≡ true → (is_none t || is_other_kind x t) ≡ true → t ≡ x → ⊥
+pub gone-other : (x t : Option Content) → is_some x ≡ true → (is_none t || is_other_kind x t) ≡ true → t ≡ x → ⊥
 gone-other None t some other is = false≢true some
 gone-other (Some Folder) t some other is = false≢true (sym (ap (λ (y : Option Content). is_none y || is_other_kind (Some Folder) y) is) ∙ other)
 gone-other (Some (File d)) t some other is = false≢true (sym (ap (λ (y : Option Content). is_none y || is_other_kind (Some (File d)) y) is) ∙ other)
 
 module _ (m : Sides) (is : AreRenamed m) where
-  clear-at : (q : Path) → is_kept_there m q ≡ true → is_left m q ≡ false → IsClear m q
+  pub clear-at : (q : Path) → is_kept_there m q ≡ true → is_left m q ≡ false → IsClear m q
   clear-at q kept not_left = record { kept = kept; not_left = not_left; no_conflict = is.no_conflict q not_left }
 
   not-left-going : (side : Tree) (q : Path) → is_going m side q ≡ true → is_left m q ≡ false
@@ -176,7 +176,7 @@ module _ (m : Sides) (is : AreRenamed m) where
       ap (λ x. is_folder x) (target-by m q (lone-needs q from_root here there) ∙ wanted-is m q clear.kept clear.not_left)
       ∙ merged-no-folder q (seen-no-folder m.local q here) (seen-no-folder m.remote q there) (merged-either (m.base q) (seen m m.local q) (seen m m.remote q))
 
-  there-file-by : (x : Option Content) (q : Path) (e : Option Digest) → at m.local q ≡ x → at m.remote q ≡ Some (File e) → IsClear m q → is_folder (target m q) ≡ false
+  pub there-file-by : (x : Option Content) (q : Path) (e : Option Digest) → at m.local q ≡ x → at m.remote q ≡ Some (File e) → IsClear m q → is_folder (target m q) ≡ false
   there-file-by None q e here there clear =
       files-target q clear (long-there q (ap (λ (x : Option Content). is_some x) there)) (ap (λ x. is_folder x) here) (ap (λ x. is_folder x) there)
   there-file-by (Some (File d)) q e here there clear =
@@ -258,3 +258,6 @@ module _ (m : Sides) (is : AreRenamed m) where
 
   pub target-clear : (q : Path) → nat_lt 0 (length q) ≡ true → is_some (target m q) ≡ true → IsClear m q
   target-clear q from_root some = clear-at q (kept-by (is_kept_there m q) q from_root refl some) (left-by (is_left m q) q refl some)
+
+  pub target-free : (q : Path) → is_some (target m q) ≡ true → is_left m q ≡ false
+  target-free q some = left-by (is_left m q) q refl some

@@ -188,7 +188,7 @@ kinds gone folder put leaves q paths there has =
     ∙ ap (λ x. cond (folder q) (Some Folder) x) (kind gone (λ path. None) q (deepest_first paths) there (deepest-in q paths ∙ has)))))
 
 -- a clear path that is on a side is what is to stand there
-known-same : (t r : Option Content) → is_file t ≡ true → t ≡ r → (r ≡ Some (File None) → ⊥) → same t r ≡ true
+pub known-same : (t r : Option Content) → is_file t ≡ true → t ≡ r → (r ≡ Some (File None) → ⊥) → same t r ≡ true
 known-same None r file is known = absurd (false≢true file)
 known-same (Some Folder) r file is known = absurd (false≢true file)
 known-same (Some (File None)) r file is known = absurd (known (sym is))

@@ -13,3 +13,4 @@ pub mod NotKept
 pub mod Order
 pub mod Proper
 pub mod Agreements
+pub mod Turns

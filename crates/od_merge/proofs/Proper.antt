@@ -82,7 +82,7 @@ rest-of : (top rest : Path) → drop (length top) (top ++ rest) ≡ rest
 rest-of [] rest = refl
 rest-of (x ∷ top) rest = rest-of top rest
 
-split : (top path : Path) → is_from top path ≡ true → path ≡ top ++ drop (length top) path
+pub split : (top path : Path) → is_from top path ≡ true → path ≡ top ++ drop (length top) path
 split [] path from = refl
 split (x ∷ top) [] from = absurd (false≢true from)
 split (x ∷ top) (y ∷ path) from =

@@ -6,3 +6,9 @@ pub mod Wanting
 pub mod CopyNames
 pub mod Listed
 pub mod Beside
+pub mod PairFacts
+pub mod Doings
+pub mod HereDoing
+pub mod ThereDoing
+pub mod Careful
+pub mod Merged
