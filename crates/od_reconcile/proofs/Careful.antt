@@ -37,13 +37,13 @@ use Rattle.od_reconcile.proofs.PairFacts.{Pairs, found-to, its-pair, none-to, to
 use Rattle.od_reconcile.proofs.ThereDoing.{PatchesThere, RemovesThere, drive-pair, is_made_there, is_removed_there, is_sent_alone, long-file, no-removal-there, patches-there, removes-there, some-file}
 
 -- ---- what is so of each that a list gives
-all-picked-at : {X Y : Type 0} (P : Y → Type 0) (y : Option Y) (ys : List Y) → ((z : Y) → y ≡ Some z → P z) → All P ys → All P (cons_option y ys)
+all-picked-at : {Y : Type 0} (P : Y → Type 0) (y : Option Y) (ys : List Y) → ((z : Y) → y ≡ Some z → P z) → All P ys → All P (cons_option y ys)
 all-picked-at P None ys each rest = rest
 all-picked-at P (Some y) ys each rest = All-cons P y ys (each y refl) rest
 
 all-picked : {X Y : Type 0} (P : Y → Type 0) (f : X → Option Y) (xs : List X) → ((x : X) (y : Y) → f x ≡ Some y → P y) → All P (filter_map f xs)
 all-picked P f [] each = All-nil P
-all-picked {X} P f (x ∷ xs) each = all-picked-at {X = X} P (f x) (filter_map f xs) (each x) (all-picked P f xs each)
+all-picked P f (x ∷ xs) each = all-picked-at P (f x) (filter_map f xs) (each x) (all-picked P f xs each)
 
 one-down : (a b : Down) → Some a ≡ Some b → a ≡ b
 one-down a b is = cc is
@@ -54,7 +54,7 @@ one-up a b is = cc is
 none-step : {X : Type 0} (x : Option X) (y : X) → x ≡ None → x ≡ Some y → ⊥
 none-step x y none some = cc (none, some)
 
-no-why : (x : Option Why) → is_none x ≡ true → x ≡ None
+pub no-why : (x : Option Why) → is_none x ≡ true → x ≡ None
 no-why None none = refl
 no-why (Some why) none = absurd (false≢true none)
 
@@ -292,12 +292,18 @@ module _ (m : Sides) (is : AreRenamed m) (items : List (Path × Item)) (remote_i
       let facts = local-pair m is items remote_is pair its.0 in
       absurd (true≢false (sym (subst (λ (p : Path). is_target_here m p ≡ true) (sym its.1) (and_from (is_fetched m pair.1) (not (is_file (at m.local pair.1))) facts.fetched (not_from_false (is_file (at m.local pair.1)) facts.no_file))) ∙ none))
 
+  -- the pairs of the fetches, in their order
+  pub fetch-pairs : filter_map (λ path. then_by pair_here (fetch_here m items (local_pairs m) path)) (all_paths m) ≡ local_pairs m
+  fetch-pairs =
+      same-map (λ path. then_by pair_here (fetch_here m items (local_pairs m) path)) (pair_to (local_pairs m)) (all_paths m) (λ path. pair-at (is_fetched m path) path refl)
+      ∙ (sym (skipped (is_target_here m) (pair_to (local_pairs m)) (all_paths m) (λ path none. no-target-pair (pair_to (local_pairs m) path) path refl none))
+      ∙ in-their-order (fits_here m) (filter (is_source_here m) (all_paths m)) [] (filter (is_target_here m) (all_paths m)) (apart-filter (is_target_here m) (all_paths m) (all-apart m is items remote_is)))
+
   pub moves-here : filter_map pair_here (down_list m items) ≡ local_pairs m
   moves-here =
       let removals = filter_map (removal_here m (local_pairs m)) (deepest_first (all_paths m)) in
       let folders = filter_map (folder_here m) (all_paths m) in
       let fetches = filter_map (fetch_here m items (local_pairs m)) (all_paths m) in
-      let targets = filter (is_target_here m) (all_paths m) in
       filter_map-append pair_here removals (folders ++ fetches)
       ∙ (ap (λ (ps : Pairs). ps ++ filter_map pair_here (folders ++ fetches))
       (picked (removal_here m (local_pairs m)) pair_here (deepest_first (all_paths m))
@@ -305,12 +311,9 @@ module _ (m : Sides) (is : AreRenamed m) (items : List (Path × Item)) (remote_i
       ∙ (filter_map-append pair_here folders fetches
       ∙ (ap (λ (ps : Pairs). ps ++ filter_map pair_here fetches)
       (picked (folder_here m) pair_here (all_paths m) ∙ none-map (λ path. then_by pair_here (folder_here m path)) (all_paths m) (λ path. no-pair-folder (needs_folder m m.local path) path))
-      ∙ (picked (fetch_here m items (local_pairs m)) pair_here (all_paths m)
-      ∙ (same-map (λ path. then_by pair_here (fetch_here m items (local_pairs m) path)) (pair_to (local_pairs m)) (all_paths m) (λ path. pair-at (is_fetched m path) path refl)
-      ∙ (sym (skipped (is_target_here m) (pair_to (local_pairs m)) (all_paths m) (λ path none. no-target-pair (pair_to (local_pairs m) path) path refl none))
-      ∙ in-their-order (fits_here m) (filter (is_source_here m) (all_paths m)) [] targets (apart-filter (is_target_here m) (all_paths m) (all-apart m is items remote_is))))))))
+      ∙ (picked (fetch_here m items (local_pairs m)) pair_here (all_paths m) ∙ fetch-pairs))))
 
-some-of : (x : Option Content) → is_folder x ≡ true → is_some x ≡ true
+pub some-of : (x : Option Content) → is_folder x ≡ true → is_some x ≡ true
 some-of None folder = absurd (false≢true folder)
 some-of (Some x) folder = refl
 
@@ -387,7 +390,7 @@ module _ (limits : Limits) (m : Sides) (is : AreRenamed m) (items : List (Path �
       cond-false (is_left m path) (cond (is_kept m.passes m.local path || list_any (is_path path) m.left) (Some NoCopyName) None) (cond (is_some (target m path)) (first_held limits m (prefixes path)) None) free
       ∙ cond-false (is_some (target m path)) (first_held limits m (prefixes path)) None (ap (λ (x : Option Content). is_some x) none)
 
-  free-going : (path : Path) → is_going m m.remote path ≡ true → IsFreePath path
+  pub free-going : (path : Path) → is_going m m.remote path ≡ true → IsFreePath path
   free-going path going = let free = not-left-going m is m.remote path going in (free, not-held path free (gone-there-none m is path going))
 
   free-made : (path : Path) → is_made_there limits m is items remote_is path ≡ true → IsFreePath path

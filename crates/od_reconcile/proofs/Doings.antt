@@ -17,13 +17,13 @@ abbrev pub then_by : {X Y : Type 0} → (X → Option Y) → Option X → Option
 then_by g None = None
 then_by g (Some x) = g x
 
-picked-at : {X Y Z : Type 0} (g : Y → Option Z) (y : Option Y) (ys : List Y) → filter_map g (cons_option y ys) ≡ cons_option (then_by g y) (filter_map g ys)
+picked-at : {Y Z : Type 0} (g : Y → Option Z) (y : Option Y) (ys : List Y) → filter_map g (cons_option y ys) ≡ cons_option (then_by g y) (filter_map g ys)
 picked-at g None ys = refl
 picked-at g (Some y) ys = refl
 
 pub picked : {X Y Z : Type 0} (f : X → Option Y) (g : Y → Option Z) (xs : List X) → filter_map g (filter_map f xs) ≡ filter_map (λ x. then_by g (f x)) xs
 picked f g [] = refl
-picked f g (x ∷ xs) = picked-at {X = Z} g (f x) (filter_map f xs) ∙ ap (λ zs. cons_option (then_by g (f x)) zs) (picked f g xs)
+picked f g (x ∷ xs) = picked-at g (f x) (filter_map f xs) ∙ ap (λ zs. cons_option (then_by g (f x)) zs) (picked f g xs)
 
 pub same-map : {X Y : Type 0} (f g : X → Option Y) (xs : List X) → ((x : X) → f x ≡ g x) → filter_map f xs ≡ filter_map g xs
 same-map f g [] same = refl
@@ -59,7 +59,7 @@ steps-list test leaves (path ∷ paths) =
 some-path : (a b : Path) → Some a ≡ Some b → a ≡ b
 some-path a b is = cc is
 
-in-picked-at : {X : Type 0} (y : Option Path) (q : Path) (ys : List Path) → y ≡ Some q → is_in q (cons_option y ys) ≡ true
+in-picked-at : (y : Option Path) (q : Path) (ys : List Path) → y ≡ Some q → is_in q (cons_option y ys) ≡ true
 in-picked-at None q ys is = absurd (cc is)
 in-picked-at (Some path) q ys is = or_left (is_path q path) (is_in q ys) (subst (λ (p : Path). is_path q p ≡ true) (sym (some-path path q is)) (path-self q))
 
@@ -69,7 +69,7 @@ in-more (Some path) q ys has = or_right (is_path q path) (is_in q ys) has
 
 in-picked-by : (t : Bool) (f : Path → Option Path) (q p first : Path) (paths : List Path) → is_path p first ≡ t → (t || is_in p paths) ≡ true → f p ≡ Some q
     → (is_in p paths ≡ true → is_in q (filter_map f paths) ≡ true) → is_in q (cons_option (f first) (filter_map f paths)) ≡ true
-in-picked-by true f q p first paths is has gives rest = in-picked-at {X = Path} (f first) q (filter_map f paths) (sym (ap f (same-path p first is)) ∙ gives)
+in-picked-by true f q p first paths is has gives rest = in-picked-at (f first) q (filter_map f paths) (sym (ap f (same-path p first is)) ∙ gives)
 in-picked-by false f q p first paths is has gives rest = in-more (f first) q (filter_map f paths) (rest has)
 
 pub in-picked : (f : Path → Option Path) (q p : Path) (paths : List Path) → is_in p paths ≡ true → f p ≡ Some q → is_in q (filter_map f paths) ≡ true

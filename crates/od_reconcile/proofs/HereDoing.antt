@@ -30,7 +30,7 @@ use Rattle.od_reconcile.specs.Plans.{down_list, fetch_by, fetch_here, fetch_of, 
 use Rattle.od_reconcile.specs.declared.types.Down.{Down}
 use Rattle.od_reconcile.specs.declared.types.Down.TheVariants as down
 use Rattle.od_reconcile.proofs.Doings.{came-from, chosen-list, done-each, if_is, in-picked, none-map, picked, same-map, steps-list, then_by, three-kinds}
-use Rattle.od_reconcile.proofs.PairFacts.{IsPair, Pairs, each-pair, found-to, in-froms, its-pair, some-from, tos, tos-apart}
+use Rattle.od_reconcile.proofs.PairFacts.{IsPair, Pairs, each-pair, found-to, froms, froms-apart, in-froms, its-pair, some-from, tos, tos-apart}
 
 -- ---- what is the same as a file is a file of a known digest
 pub record IsKnown (there : Option Content) : Type 0 where
@@ -128,6 +128,9 @@ module _ (m : Sides) (is : AreRenamed m) (items : List (Path × Item)) (remote_i
   pub pairs-apart : Apart (tos pairs)
   pairs-apart = tos-apart (fits_here m) sources targets (apart-filter (is_target_here m) all all-apart)
 
+  pub local-froms-apart : Apart (froms pairs)
+  local-froms-apart = froms-apart (fits_here m) sources targets
+
   -- what is known of a pair
   pub record IsLocalPair (pair : Path × Path) : Type 0 where
     pub same_is : at m.local pair.0 ≡ target m pair.1
@@ -180,7 +183,7 @@ module _ (m : Sides) (is : AreRenamed m) (items : List (Path × Item)) (remote_i
       subst (λ (step : Option Down). RemovesFolder path step ⊎ RemovesFile path step) (sym (cond-true (is_removed path) (removal_of path (at m.local path)) None removed))
       (removes-by (at m.local path) path refl (and_parts (is_going m m.local path) (not (is_moved_from pairs path)) removed).0)
 
-  no-removal : (path : Path) → is_removed path ≡ false → removal_here m pairs path ≡ None
+  pub no-removal : (path : Path) → is_removed path ≡ false → removal_here m pairs path ≡ None
   no-removal path removed = cond-false (is_removed path) (removal_of path (at m.local path)) None removed
 
   gone-of : (path : Path) (step : Option Down) → RemovesFolder path step ⊎ RemovesFile path step → then_by gone_here step ≡ Some path
@@ -258,7 +261,7 @@ module _ (m : Sides) (is : AreRenamed m) (items : List (Path × Item)) (remote_i
       subst (λ (step : Option Down). Fetches path step ⊎ Moves path step) (sym (cond-true (is_fetched m path) (fetch_or_move m items path (pair_to pairs path)) None fetched))
       (comes-by (pair_to pairs path) path refl first.0 first.1)
 
-  no-fetch : (path : Path) → is_fetched m path ≡ false → fetch_here m items pairs path ≡ None
+  pub no-fetch : (path : Path) → is_fetched m path ≡ false → fetch_here m items pairs path ≡ None
   no-fetch path fetched = cond-false (is_fetched m path) (fetch_or_move m items path (pair_to pairs path)) None fetched
 
   fetch-made : (path : Path) (step : Option Down) → Fetches path step ⊎ Moves path step → then_by made_here step ≡ None
@@ -278,7 +281,7 @@ module _ (m : Sides) (is : AreRenamed m) (items : List (Path × Item)) (remote_i
   fetch-come-by false path fetched = ap (λ (s : Option Down). then_by come_here s) (no-fetch path fetched)
 
   -- the sources of moves
-  abbrev gone_by_move : Path → Option Path
+  abbrev pub gone_by_move : Path → Option Path
   gone_by_move path = then_by gone_here (fetch_here m items pairs path)
 
   moved-of : (q path : Path) (step : Option Down) → Fetches path step ⊎ Moves path step → then_by gone_here step ≡ Some q → is_moved_from pairs q ≡ true

@@ -12,3 +12,7 @@ pub mod HereDoing
 pub mod ThereDoing
 pub mod Careful
 pub mod Merged
+pub mod InOrder
+pub mod InTurn
+pub mod Kept
+pub mod Equal

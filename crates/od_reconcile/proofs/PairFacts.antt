@@ -82,7 +82,7 @@ froms-end : (pairs : Pairs) (pair : Path × Path) → froms (pairs ++ pair ∷ [
 froms-end [] pair = refl
 froms-end (first ∷ pairs) pair = ap (λ (ps : List Path). first.0 ∷ ps) (froms-end pairs pair)
 
-from-in : (pairs : Pairs) (path : Path) → is_moved_from pairs path ≡ is_in path (froms pairs)
+pub from-in : (pairs : Pairs) (path : Path) → is_moved_from pairs path ≡ is_in path (froms pairs)
 from-in [] path = refl
 from-in (first ∷ pairs) path = ap (λ (b : Bool). is_path path first.0 || b) (from-in pairs path)
 

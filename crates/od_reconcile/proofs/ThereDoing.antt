@@ -19,7 +19,7 @@ use Rattle.od_merge.proofs.Cases.{same-nodes}
 use Rattle.od_merge.proofs.Doing.{known-same}
 use Rattle.od_merge.proofs.Lists.{Path, deepest-in, filter-in, is_in}
 use Rattle.od_merge.proofs.Needs.{file-from, file-needs}
-use Rattle.od_merge.proofs.Order.{Apart, apart-filter, apart-sorted, rises}
+use Rattle.od_merge.proofs.Order.{Apart}
 use Rattle.od_merge.proofs.Phases.{chosen, done-then}
 use Rattle.od_merge.proofs.Proper.{In}
 use Rattle.od_merge.proofs.SideFacts.{goes}
@@ -31,7 +31,7 @@ use Rattle.od_reconcile.specs.declared.types.Up.{Up}
 use Rattle.od_reconcile.specs.declared.types.Up.TheVariants as up
 use Rattle.od_reconcile.proofs.Doings.{AllLeave, done-leaves, places, three-kinds}
 use Rattle.od_reconcile.proofs.HereDoing.{at-item, down-at, down-is}
-use Rattle.od_reconcile.proofs.PairFacts.{Pairs, each-pair, some-from, some-to, to-in, tos, tos-apart}
+use Rattle.od_reconcile.proofs.PairFacts.{Pairs, each-pair, froms, froms-apart, some-from, some-to, to-in}
 
 -- ---- steps of a list
 abbrev pub step_or : Standing → Standing → Option Up → List Step
@@ -68,12 +68,12 @@ not-some : {X : Type 0} (x : Option X) → not (is_some x) ≡ is_none x
 not-some None = refl
 not-some (Some x) = refl
 
-file-not-folder : (x : Option Content) → is_file x ≡ true → is_folder x ≡ false
+pub file-not-folder : (x : Option Content) → is_file x ≡ true → is_folder x ≡ false
 file-not-folder None file = refl
 file-not-folder (Some Folder) file = absurd (false≢true file)
 file-not-folder (Some (File d)) file = refl
 
-some-file : (x : Option Content) → is_file x ≡ true → is_some x ≡ true
+pub some-file : (x : Option Content) → is_file x ≡ true → is_some x ≡ true
 some-file None file = absurd (false≢true file)
 some-file (Some x) file = refl
 
@@ -158,6 +158,9 @@ module _ (limits : Limits) (m : Sides) (is : AreRenamed m) (items : List (Path �
         there_is = same-nodes (at m.remote pair.0) (m.base pair.0) (gone-there-as-base m is pair.0 source.0 (some-file (at m.remote pair.0) source.1)) ∙ agreed;
       }
 
+  pub drive-froms-apart : Apart (froms pairs)
+  drive-froms-apart = froms-apart (may_move limits m) (filter (is_source_there m) all) (filter (is_target_there limits m) all)
+
   -- ---- the drive's items
   pub record HasItem (path : Path) : Type 0 where
     pub item : Item
@@ -232,7 +235,7 @@ module _ (limits : Limits) (m : Sides) (is : AreRenamed m) (items : List (Path �
     send-step true path = refl
     send-step false path = refl
 
-    abbrev patch_steps : Pairs → List Step
+    abbrev pub patch_steps : Pairs → List Step
     patch_steps [] = []
     patch_steps (pair ∷ ps) = (pair.0, None) ∷ ((pair.1, target m pair.1) ∷ patch_steps ps)
 

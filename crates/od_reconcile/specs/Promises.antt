@@ -103,3 +103,16 @@ pub record IsCareful (limits : Limits) (m : Sides) (plan : Plan) : Type 0 where
 pub record IsInOrder (m : Sides) (plan : Plan) : Type 0 where
   pub here : CanDo (steps_down plan.down) (at m.local)
   pub there : CanDo (steps_up (done_down plan.down (at m.local)) (at m.remote) plan.up) (at m.remote)
+
+-- what a plan keeps where the folder and the drive are trees
+pub record Keeps (limits : Limits) (m : Sides) (plan : Plan) : Type 0 where
+  pub merges : Merges limits m plan
+  pub careful : IsCareful limits m plan
+  pub in_order : IsInOrder m plan
+
+-- a plan with nothing to do
+pub record IsEmpty (plan : Plan) : Type 0 where
+  pub renames : plan.renames ≡ []
+  pub down : plan.down ≡ []
+  pub up : plan.up ≡ []
+  pub held : plan.held ≡ []
