@@ -71,7 +71,7 @@ module _ (m : Sides) (is : AreRenamed m) where
   pub clear-at : (q : Path) → is_kept_there m q ≡ true → is_left m q ≡ false → IsClear m q
   clear-at q kept not_left = record { kept = kept; not_left = not_left; no_conflict = is.no_conflict q not_left }
 
-  not-left-going : (side : Tree) (q : Path) → is_going m side q ≡ true → is_left m q ≡ false
+  pub not-left-going : (side : Tree) (q : Path) → is_going m side q ≡ true → is_left m q ≡ false
   not-left-going side q going =
       let unwanted = going-at m side q (at side q) refl going in
       let parts = and_parts (is_kept m.passes side q && not (is_left m q)) (is_none (target m q) || is_other_kind (at side q) (target m q)) unwanted in

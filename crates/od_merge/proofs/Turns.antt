@@ -42,17 +42,20 @@ falls-by (inr is) first second = second is
 
 falls-joined : (a b : List Path) → Falls a → Falls b → ((p q : Path) → is_in p a ≡ true → is_in q b ≡ true → (length q ≤ length p) × (is_path p q ≡ false)) → Falls (a ++ b)
 falls-joined [] b first second apart = second
-falls-joined (path ∷ a) b first second apart =
-    (λ other has. falls-by (joined-in other a b has) (first.0 other) (λ more. (apart path other (head-in path a) more).0),
-    (in-joined path a b ∙ or_from (is_in path a) (is_in path b) first.1
-    (false_from_ne_true (is_in path b) (λ has. true≢false (sym (path-self path) ∙ (apart path path (head-in path a) has).1)))),
-    falls-joined a b first.2 second (λ p q p_in q_in. apart p q (tail-in p path a p_in) q_in))
+falls-joined (path ∷ a) b first second apart = (
+  λ other has. falls-by (joined-in other a b has) (first.0 other) (λ more. (apart path other (head-in path a) more).0),
+  (in-joined path a b ∙ or_from (is_in path a) (is_in path b) first.1
+      (false_from_ne_true (is_in path b) (λ has. true≢false (sym (path-self path) ∙ (apart path path (head-in path a) has).1)))),
+  falls-joined a b first.2 second (λ p q p_in q_in. apart p q (tail-in p path a p_in) q_in),
+)
 
 falls-same : (depth : ℕ) (paths : List Path) → Apart paths → ((p : Path) → is_in p paths ≡ true → length p ≡ depth) → Falls paths
 falls-same depth [] apart each = tt
-falls-same depth (path ∷ paths) apart each =
-    (λ other has. let one = each other (tail-in other path paths has) in let two = each path (head-in path paths) in omega (arith, one, two),
-    apart.0, falls-same depth paths apart.1 (λ p has. each p (tail-in p path paths has)))
+falls-same depth (path ∷ paths) apart each = (
+  λ other has. let one = each other (tail-in other path paths has) in let two = each path (head-in path paths) in omega (arith, one, two),
+  apart.0,
+  falls-same depth paths apart.1 (λ p has. each p (tail-in p path paths has)),
+)
 
 of-depth : (depth : ℕ) (paths : List Path) (p : Path) → is_in p (filter (λ path. nat_eq (length path) depth) paths) ≡ true → length p ≡ depth
 of-depth depth paths p has =
@@ -63,9 +66,10 @@ shallower depth paths p has = (and_parts (nat_lt (length p) depth) (is_in p path
 
 apart-depth : (depth : ℕ) (p q : Path) → length p ≡ depth → nat_lt (length q) depth ≡ true → (length q ≤ length p) × (is_path p q ≡ false)
 apart-depth depth p q is less =
-    let lower = ltb-true (length q) depth less in
-    (omega (arith, is, lower),
-    false_from_ne_true (is_path p q) (λ same. let one : length p ≡ length q = ap (λ (x : Path). length x) (same-path p q same) in absurd (omega (arith, is, lower, one))))
+    let lower = ltb-true (length q) depth less in (
+      omega (arith, is, lower),
+      false_from_ne_true (is_path p q) (λ same. let one : length p ≡ length q = ap (λ (x : Path). length x) (same-path p q same) in absurd (omega (arith, is, lower, one))),
+    )
 
 falls-depth : (depth : ℕ) (paths : List Path) → Apart paths → Falls (by_depth depth paths)
 falls-depth zero paths apart = tt

@@ -42,7 +42,7 @@ use Rattle.od_reconcile.proofs.Doings.{none-map}
 use Rattle.od_reconcile.proofs.Merged.{long-in}
 use Rattle.od_reconcile.proofs.ThereDoing.{file-not-folder, going-some, long-file, some-file}
 
-none-map-at : {X Y : Type 0} (y : Option Y) (ys : List Y) → y ≡ None → ys ≡ [] → cons_option y ys ≡ []
+none-map-at : {Y : Type 0} (y : Option Y) (ys : List Y) → y ≡ None → ys ≡ [] → cons_option y ys ≡ []
 none-map-at None ys none rest = rest
 none-map-at (Some y) ys none rest = absurd (cc none)
 
@@ -51,8 +51,8 @@ none-map-in f [] none = refl
 none-map-in f (path ∷ paths) none = none-map-at (f path) (filter_map f paths) (none path (head-in path paths)) (none-map-in f paths (λ q has. none q (tail-in q path paths has)))
 
 none-filter-at : (t : Bool) (path : Path) (rest : List Path) → t ≡ false → rest ≡ [] → cond t (path ∷ rest) rest ≡ []
-none-filter-at true path rest no none = absurd (true≢false no)
-none-filter-at false path rest no none = none
+none-filter-at true path rest fails none = absurd (true≢false fails)
+none-filter-at false path rest fails none = none
 
 none-filter : (test : Path → Bool) (paths : List Path) → ((path : Path) → test path ≡ false) → filter test paths ≡ []
 none-filter test [] none = refl

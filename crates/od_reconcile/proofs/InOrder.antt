@@ -57,23 +57,27 @@ pub record MayGo (there : Standing) (paths : List Path) (path : Path) : Type 0 w
 pub can-go : (paths : List Path) (there : Standing) → Falls paths → ((path : Path) → is_in path paths ≡ true → MayGo there paths path) → CanDo (map (λ path. (path, None)) paths) there
 can-go [] there falls may = tt
 can-go (path ∷ paths) there falls may =
-    let here = may path (head-in path paths) in
-    ((here.stands, λ other below. false_from_ne_true (is_some (there other))
-    (λ some.
-    let more = second-of (is_path other path) (is_in other paths) (here.all_go other below some) (not-below-itself path other below) in
-    let lower = falls.0 other more in
-    let less = ltb-true (length path) (length other) (and_parts (nat_lt (length path) (length other)) (is_from path other) below).0 in
-    absurd (omega (arith, lower, less)))),
-    can-go paths (after there (path, None)) falls.2
-    (λ q has.
-    let one = may q (tail-in q path paths has) in
-    let other = other-of q path paths falls.1 has in
-    record {
-      stands = ap (λ (x : Option Content). is_some x) (apart-after there path None q other) ∙ one.stands;
-      all_go = λ o below some.
-          let apart = false_from_ne_true (is_path o path) (λ same. false≢true (sym (ap (λ (x : Option Content). is_some x) (own-after there path None o same)) ∙ some)) in
-          second-of (is_path o path) (is_in o paths) (one.all_go o below (ap (λ (x : Option Content). is_some x) (sym (apart-after there path None o apart)) ∙ some)) apart;
-    }))
+    let here = may path (head-in path paths) in (
+      (
+        here.stands,
+        λ other below. false_from_ne_true (is_some (there other))
+            (λ some.
+            let more = second-of (is_path other path) (is_in other paths) (here.all_go other below some) (not-below-itself path other below) in
+            let lower = falls.0 other more in
+            let less = ltb-true (length path) (length other) (and_parts (nat_lt (length path) (length other)) (is_from path other) below).0 in
+            absurd (omega (arith, lower, less))),
+      ),
+      can-go paths (after there (path, None)) falls.2
+          (λ q has.
+          let one = may q (tail-in q path paths has) in
+          let other = other-of q path paths falls.1 has in
+          record {
+            stands = ap (λ (x : Option Content). is_some x) (apart-after there path None q other) ∙ one.stands;
+            all_go = λ o below some.
+                let apart = false_from_ne_true (is_path o path) (λ same. false≢true (sym (ap (λ (x : Option Content). is_some x) (own-after there path None o same)) ∙ some)) in
+                second-of (is_path o path) (is_in o paths) (one.all_go o below (ap (λ (x : Option Content). is_some x) (sym (apart-after there path None o apart)) ∙ some)) apart;
+          }),
+    )
 
 -- ---- folders, in order of path
 pub record MayMake (there : Standing) (paths : List Path) (path : Path) : Type 0 where
@@ -115,17 +119,21 @@ pub can-make : (paths : List Path) (there : Standing) → Rises paths → Apart 
 unfolding IsStrictlySortedBy
 can-make [] there rises apart may = tt
 can-make (path ∷ paths) there rises apart may =
-    let here = may path (head-in path paths) in
-    ((here.free, λ top long below.
-    first-of (is_folder (there top)) (is_in top (path ∷ paths)) (here.folders top long below)
-    (or_from (is_path top path) (is_in top paths) (not-above-itself top path below) (above-not-in top path paths below rises.0))),
-    can-make paths (after there (path, Some Folder)) rises.1 apart.1
-    (λ q has.
-    let one = may q (tail-in q path paths has) in
-    record {
-      free = ap (λ (x : Option Content). is_some x) (apart-after there path (Some Folder) q (other-of q path paths apart.0 has)) ∙ one.free;
-      folders = λ top long below. made-top (is_path top path) there path top paths refl (one.folders top long below);
-    }))
+    let here = may path (head-in path paths) in (
+      (
+        here.free,
+        λ top long below.
+            first-of (is_folder (there top)) (is_in top (path ∷ paths)) (here.folders top long below)
+            (or_from (is_path top path) (is_in top paths) (not-above-itself top path below) (above-not-in top path paths below rises.0)),
+      ),
+      can-make paths (after there (path, Some Folder)) rises.1 apart.1
+          (λ q has.
+          let one = may q (tail-in q path paths has) in
+          record {
+            free = ap (λ (x : Option Content). is_some x) (apart-after there path (Some Folder) q (other-of q path paths apart.0 has)) ∙ one.free;
+            folders = λ top long below. made-top (is_path top path) there path top paths refl (one.folders top long below);
+          }),
+    )
 
 -- ---- what is left behind by taking files away and putting others: each leaves what is to stand there, which is no folder
 pub record MayPut (target : Path → Option Content) (there : Standing) (step : Step) : Type 0 where
@@ -195,9 +203,11 @@ next-may target there first step steps apart may own has = record {
   stands = λ none.
       ap (λ (x : Option Content). is_some x) (apart-after there first.0 first.1 step.0 (apart-takes (is_some first.1) first step steps target there refl apart may own has none)) ∙ own.stands none;
   alone = λ none other below.
-      let both = own.alone none other below in
-      (kept-none (is_path other first.0) there first other refl both.0
-      (λ same. ap (λ (x : Option Content). is_some x) may.leaves ∙ (ap (λ (p : Path). is_some (target p)) (sym (same-path other first.0 same)) ∙ both.1)), both.1);
+      let both = own.alone none other below in (
+        kept-none (is_path other first.0) there first other refl both.0
+            (λ same. ap (λ (x : Option Content). is_some x) may.leaves ∙ (ap (λ (p : Path). is_some (target p)) (sym (same-path other first.0 same)) ∙ both.1)),
+        both.1,
+      );
   free = λ some. kept-free (is_path step.0 first.0) there first step.0 may.no_folder (own.free some);
   folders = λ some top long below.
       let both = own.folders some top long below in
@@ -207,6 +217,7 @@ next-may target there first step steps apart may own has = record {
 pub can-put : (target : Path → Option Content) (steps : List Step) (there : Standing) → Apart (takes steps) → ((step : Step) → InSteps step steps → MayPut target there step) → CanDo steps there
 can-put target [] there apart may = tt
 can-put target (step ∷ steps) there apart may =
-    let here = may step (inl refl) in
-    (step-can target there step.0 step.1 here,
-    can-put target steps (after there step) (next-takes (is_some step.1) step steps refl apart) (λ other has. next-may target there step other steps apart here (may other (inr has)) has))
+    let here = may step (inl refl) in (
+      step-can target there step.0 step.1 here,
+      can-put target steps (after there step) (next-takes (is_some step.1) step steps refl apart) (λ other has. next-may target there step other steps apart here (may other (inr has)) has),
+    )

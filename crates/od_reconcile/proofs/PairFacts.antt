@@ -37,15 +37,15 @@ one-pair : (a b : Path × Path) → Some a ≡ Some b → a ≡ b
 one-pair a b is = cc is
 
 -- ---- one after the other
-in-on : {first pair last : Path × Path} {pairs : Pairs} → In pair pairs ⊎ (pair ≡ last) → In pair (first ∷ pairs) ⊎ (pair ≡ last)
-in-on (inl more) = inl (inr more)
-in-on (inr is) = inr is
+in-on : {first pair last : Path × Path} (pairs : Pairs) → In pair pairs ⊎ (pair ≡ last) → In pair (first ∷ pairs) ⊎ (pair ≡ last)
+in-on pairs (inl more) = inl (inr more)
+in-on pairs (inr is) = inr is
 
 in-end : (pairs : Pairs) (pair last : Path × Path) → In pair (pairs ++ last ∷ []) → In pair pairs ⊎ (pair ≡ last)
 in-end [] pair last (inl is) = inr is
 in-end [] pair last (inr none) = absurd none
 in-end (first ∷ pairs) pair last (inl is) = inl (inl is)
-in-end (first ∷ pairs) pair last (inr more) = in-on (in-end pairs pair last more)
+in-end (first ∷ pairs) pair last (inr more) = in-on pairs (in-end pairs pair last more)
 
 -- what is known of each pair
 pub record IsPair (fits : Path → Path → Bool) (sources all : List Path) (pair : Path × Path) : Type 0 where
@@ -65,9 +65,11 @@ turn a b is = subst (λ (p : Path). is_path p a ≡ true) (same-path a b is) (pa
 apart-end : (a : List Path) (path : Path) → Apart a → is_in path a ≡ false → Apart (a ++ path ∷ [])
 apart-end [] path apart none = (refl, tt)
 apart-end (first ∷ a) path apart none =
-    let parts = or_parts (is_path path first) (is_in path a) none in
-    (in-joined first a (path ∷ []) ∙ or_from (is_in first a) (is_in first (path ∷ [])) apart.0
-    (or_from (is_path first path) false (false_from_ne_true (is_path first path) (λ same. true≢false (sym (turn first path same) ∙ parts.0))) refl), apart-end a path apart.1 parts.1)
+    let parts = or_parts (is_path path first) (is_in path a) none in (
+      in-joined first a (path ∷ []) ∙ or_from (is_in first a) (is_in first (path ∷ [])) apart.0
+          (or_from (is_path first path) false (false_from_ne_true (is_path first path) (λ same. true≢false (sym (turn first path same) ∙ parts.0))) refl),
+      apart-end a path apart.1 parts.1,
+    )
 
 apart-first : (a b : List Path) → Apart (a ++ b) → Apart a
 apart-first [] b apart = tt
@@ -95,14 +97,15 @@ module _ (fits : Path → Path → Bool) (sources all : List Path) where
   new-pair from to pairs is has =
       let found = found-path (λ from. fits from to && not (list_any (λ (pair : Path × Path). is_path from pair.0) pairs)) sources from is in
       record { fits_is = (and_parts (fits from to) (not (list_any (λ (pair : Path × Path). is_path from pair.0) pairs)) found.1).0; from = found.0; to = has }
-  each-end : {pairs : Pairs} {pair last : Path × Path} → In pair pairs ⊎ (pair ≡ last) → ((pair : Path × Path) → In pair pairs → IsPair fits sources all pair) → IsPair fits sources all last → IsPair fits sources all pair
-  each-end {pair = pair} (inl more) each new = each pair more
-  each-end (inr is) each new = subst (λ (p : Path × Path). IsPair fits sources all p) (sym is) new
+
+  each-end : (pairs : Pairs) (pair last : Path × Path) → In pair pairs ⊎ (pair ≡ last) → ((pair : Path × Path) → In pair pairs → IsPair fits sources all pair) → IsPair fits sources all last → IsPair fits sources all pair
+  each-end pairs pair last (inl more) each new = each pair more
+  each-end pairs pair last (inr is) each new = subst (λ (p : Path × Path). IsPair fits sources all p) (sym is) new
 
   each-at : (x : Option Path) (to : Path) (pairs : Pairs) → source_for fits sources pairs to ≡ x → is_in to all ≡ true → ((pair : Path × Path) → In pair pairs → IsPair fits sources all pair)
       → (pair : Path × Path) → In pair (and_pair x to pairs) → IsPair fits sources all pair
   each-at None to pairs is has each pair here = each pair here
-  each-at (Some from) to pairs is has each pair here = each-end (in-end pairs pair (from, to) here) each (new-pair from to pairs is has)
+  each-at (Some from) to pairs is has each pair here = each-end pairs pair (from, to) (in-end pairs pair (from, to) here) each (new-pair from to pairs is has)
 
   each-from : (pairs : Pairs) (rest : List Path) → ((to : Path) → is_in to rest ≡ true → is_in to all ≡ true) → ((pair : Path × Path) → In pair pairs → IsPair fits sources all pair)
       → (pair : Path × Path) → In pair (pairs_from fits sources pairs rest) → IsPair fits sources all pair

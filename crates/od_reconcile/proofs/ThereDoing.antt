@@ -164,11 +164,11 @@ module _ (limits : Limits) (m : Sides) (is : AreRenamed m) (items : List (Path �
   -- ---- the drive's items
   pub record HasItem (path : Path) : Type 0 where
     pub item : Item
-    pub is : item_at items path ≡ Some item
+    pub item_is : item_at items path ≡ Some item
 
   has-item-by : (path : Path) (x : Option Item) → item_at items path ≡ x → is_some (option_map (λ (item : Item). kind_content item.kind) x) ≡ true → HasItem path
   has-item-by path None item_is some = absurd (false≢true some)
-  has-item-by path (Some item) item_is some = record { item = item; is = item_is }
+  has-item-by path (Some item) item_is some = record { item = item; item_is = item_is }
 
   pub has-item : (path : Path) → is_some (at m.remote path) ≡ true → HasItem path
   has-item path some =
@@ -203,7 +203,7 @@ module _ (limits : Limits) (m : Sides) (is : AreRenamed m) (items : List (Path �
       record {
         id = item.item.id;
         etag = item.item.etag;
-        step_is = cond-true (is_removed_there path) (delete_of path (item_at items path)) None removed ∙ ap (λ (x : Option Item). delete_of path x) item.is;
+        step_is = cond-true (is_removed_there path) (delete_of path (item_at items path)) None removed ∙ ap (λ (x : Option Item). delete_of path x) item.item_is;
       }
 
   pub no-removal-there : (path : Path) → is_removed_there path ≡ false → removal_there m items pairs path ≡ None
@@ -217,7 +217,7 @@ module _ (limits : Limits) (m : Sides) (is : AreRenamed m) (items : List (Path �
   pub patches-there : (pair : Path × Path) → In pair pairs → PatchesThere pair (patch_there items pair)
   patches-there pair has =
       let item = has-item pair.0 (some-file (at m.remote pair.0) (drive-pair pair has).file) in
-      record { id = item.item.id; etag = item.item.etag; step_is = ap (λ (x : Option Item). patch_of pair x) item.is }
+      record { id = item.item.id; etag = item.item.etag; step_is = ap (λ (x : Option Item). patch_of pair x) item.item_is }
 
   module _ (here : Standing) where
     abbrev there : Standing

@@ -75,7 +75,13 @@ fn each_side_gets_what_the_other_changed(rt: HostRuntime) -> Result<(), Fail> {
         ),
         (
             "a folder whose file went against a file",
-            ("", &[("/d", 0), ("/d/f", 1)], &[("/d", 0)], &[(2, 1, "d", 2)], &[]),
+            (
+                "",
+                &[("/d", 0), ("/d/f", 1)],
+                &[("/d", 0)],
+                &[(2, 1, "d", 2)],
+                &[],
+            ),
             "rmdir /d; fetch /d; ",
         ),
     ];
@@ -139,7 +145,13 @@ fn what_the_rules_skip_stays(rt: HostRuntime) -> Result<(), Fail> {
         ),
         (
             "a skipped folder that passes under its new name",
-            ("*\n!d/", &[], &[("/d", 0), ("/d/x", 9)], &[(2, 1, "d", 1)], &[]),
+            (
+                "*\n!d/",
+                &[],
+                &[("/d", 0), ("/d/x", 9)],
+                &[(2, 1, "d", 1)],
+                &[],
+            ),
             "rename /d /d-h1-safeBackup-0001; fetch /d; make /d-h1-safeBackup-0001; send /d-h1-safeBackup-0001/x; ",
         ),
         (
@@ -250,7 +262,12 @@ fn bytes_that_a_side_has_are_moved(rt: HostRuntime) -> Result<(), Fail> {
                 "",
                 &[("/a", 1), ("/b", 2), ("/c", 3), ("/d", 4)],
                 &[("/B", 1), ("/C", 2), ("/D", 3), ("/e", 4)],
-                &[(2, 1, "a", 1), (3, 1, "b", 2), (4, 1, "c", 3), (5, 1, "d", 4)],
+                &[
+                    (2, 1, "a", 1),
+                    (3, 1, "b", 2),
+                    (4, 1, "c", 3),
+                    (5, 1, "d", 4),
+                ],
                 &[],
             ),
             "delete /b; delete /c; delete /d; patch /a /B; send /C; send /D; send /e; ",

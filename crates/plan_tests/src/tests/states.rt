@@ -125,11 +125,7 @@ fn add_down(alloc: Global, text: &mut String, step: &Down) -> Result<(), NoMemor
         Down::RemoveFolder(path) => add(alloc, text, "rmdir ", path)?,
         Down::MakeFolder(path) => add(alloc, text, "mkdir ", path)?,
         Down::Fetch { path, over, .. } => {
-            let word = if over.is_some() {
-                "replace "
-            } else {
-                "fetch "
-            };
+            let word = if over.is_some() { "replace " } else { "fetch " };
             add(alloc, text, word, path)?
         }
         Down::Move { from, to, .. } => {
