@@ -11,10 +11,10 @@ use Rattle.od_merge.proofs.Lists.{Path, at-in, from-self, in-joined, is_in, path
 use Rattle.od_merge.proofs.Renames.{conflict-there, none-new}
 use Rattle.od_merge.proofs.Doing.{done-here, done-there}
 
-abbrev moves_of : List (Path × Option Path) → List (Path × Path)
+abbrev pub moves_of : List (Path × Option Path) → List (Path × Path)
 moves_of those = filter_map (λ (c : Path × Option Path). option_map (λ to. (c.0, to)) c.1) those
 
-abbrev left_of : List (Path × Option Path) → List Path
+abbrev pub left_of : List (Path × Option Path) → List Path
 left_of those = map (λ (c : Path × Option Path). c.0) (filter (λ (c : Path × Option Path). is_none c.1) those)
 
 module _ (copy : List Path → Path → Option Path) (copying : IsCopying copy) (s : Sides) where
@@ -32,7 +32,7 @@ module _ (copy : List Path → Path → Option Path) (copying : IsCopying copy) 
   taken-more None taken all p some = all p some
   taken-more (Some to) taken all p some = in-joined p taken (to ∷ []) ∙ or_left (is_in p taken) (is_in p (to ∷ [])) (all p some)
 
-  are-copies : (taken paths : List Path) → ((p : Path) → is_some (at s.remote p) ≡ true → is_in p taken ≡ true) → ((p : Path) → is_in p paths ≡ true → is_conflict s p ≡ true) → AreCopies s (moves_of (copied copy taken paths))
+  pub are-copies : (taken paths : List Path) → ((p : Path) → is_some (at s.remote p) ≡ true → is_in p taken ≡ true) → ((p : Path) → is_in p paths ≡ true → is_conflict s p ≡ true) → AreCopies s (moves_of (copied copy taken paths))
   are-copies taken [] all each = tt
   are-copies taken (path ∷ paths) all each =
       copies-at (copy taken path) taken paths path refl (each path (or_left (is_path path path) (is_in path paths) (path-self path))) all
@@ -61,7 +61,7 @@ filter-has : (t : Bool) (test : Path → Bool) (q p : Path) (rest : List Path) �
 filter-has true test q p rest is has more = by-head (is_path q p) test q p rest refl is has more
 filter-has false test q p rest is has more = more has
 
-filtered : (test : Path → Bool) (q : Path) (paths : List Path) → is_in q (filter test paths) ≡ true → test q ≡ true
+pub filtered : (test : Path → Bool) (q : Path) (paths : List Path) → is_in q (filter test paths) ≡ true → test q ≡ true
 filtered test q [] has = absurd (false≢true has)
 filtered test q (p ∷ paths) has = filter-has (test p) test q p (filter test paths) refl has (filtered test q paths)
 
@@ -110,7 +110,7 @@ left-at : (x : Option Path) (q path : Path) (those : List (Path × Option Path))
 left-at (Some to) q path those paths rest has = or_right (is_path q path) (is_in q paths) (rest has)
 left-at None q path those paths rest has = or-on (is_path q path) (is_in q (left_of those)) (is_in q paths) rest has
 
-left-in : (copy : List Path → Path → Option Path) (q : Path) (taken paths : List Path) → is_in q (left_of (copied copy taken paths)) ≡ true → is_in q paths ≡ true
+pub left-in : (copy : List Path → Path → Option Path) (q : Path) (taken paths : List Path) → is_in q (left_of (copied copy taken paths)) ≡ true → is_in q paths ≡ true
 left-in copy q taken [] has = absurd (false≢true has)
 left-in copy q taken (path ∷ paths) has =
     left-at (copy taken path) q path (copied copy (and_taken (copy taken path) taken) paths) paths (left-in copy q (and_taken (copy taken path) taken) paths) has

@@ -36,7 +36,7 @@ second : {X : Type 0} (t : Bool) (x : X) → cond t x x ≡ x
 second true x = refl
 second false x = refl
 
-keeps-changed : (b x y : Option Content) → same x b ≡ false → is_some x ≡ true → merged b x y ≡ x
+pub keeps-changed : (b x y : Option Content) → same x b ≡ false → is_some x ≡ true → merged b x y ≡ x
 keeps-changed b None y changed some = absurd (false≢true some)
 keeps-changed b (Some x) y changed some = rw changed (second (same y b || same (Some x) y) (Some x))
 
@@ -51,7 +51,7 @@ changed-wanted s q clear file changed =
     wanted-is s q clear.kept clear.not_left
     ∙ (keeps-changed (s.base q) (seen s s.local q) (seen s s.remote q) (ap (λ x. same x (s.base q)) seen_is ∙ changed) (ap (λ (x : Option Content). is_some x) seen_is ∙ some-file (at s.local q) file) ∙ seen_is)
 
-none-wanted : (t : Bool) (x : Option Content) → is_none (cond t (Some Folder) x) ≡ true → x ≡ None
+pub none-wanted : (t : Bool) (x : Option Content) → is_none (cond t (Some Folder) x) ≡ true → x ≡ None
 none-wanted true x none = absurd (false≢true none)
 none-wanted false None none = refl
 none-wanted false (Some x) none = absurd (false≢true none)

@@ -21,7 +21,7 @@ seen-kept s side q kept = cond-false (is_other_kind (at s.local q) (at s.remote 
 merged-base : (b x y : Option Content) → same x b ≡ true → merged b x y ≡ y
 merged-base b x y is = rw is refl
 
-as-drive : (s : Sides) (q : Path) → IsAsBase s q → merged (s.base q) (seen s s.local q) (seen s s.remote q) ≡ seen s s.remote q
+pub as-drive : (s : Sides) (q : Path) → IsAsBase s q → merged (s.base q) (seen s s.local q) (seen s s.remote q) ≡ seen s s.remote q
 as-drive s q is = merged-base (s.base q) (seen s s.local q) (seen s s.remote q) (ap (λ x. same x (s.base q)) (seen-kept s s.local q is.kept) ∙ is.same_base)
 
 cond-none : {X : Type 0} (t : Bool) (x : Option X) → x ≡ None → cond t x None ≡ None
@@ -43,7 +43,7 @@ there-folder-goes-by : (s : Sides) (q : Path) → IsClear s q → at s.remote q 
 there-folder-goes-by s q clear there file (inl is) = let here = file-of (at s.local q) (sym (ap (λ x. is_file x) is) ∙ file) in never-file s q here.0 clear here.1 there file
 there-folder-goes-by s q clear there file (inr is) = false≢true (sym (ap (λ x. is_file x) (is ∙ there)) ∙ file)
 
-there-folder-goes : (s : Sides) (q : Path) → IsClear s q → is_folder (at s.remote q) ≡ true → is_file (target s q) ≡ true → ⊥
+pub there-folder-goes : (s : Sides) (q : Path) → IsClear s q → is_folder (at s.remote q) ≡ true → is_file (target s q) ≡ true → ⊥
 there-folder-goes s q clear folder file = there-folder-goes-by s q clear (is-folder (at s.remote q) folder) file (file-from s q clear.kept clear.not_left file)
 
 -- a skipped file of the drive beside a local folder: nothing is to stand there
@@ -62,7 +62,7 @@ none-of-entries test (entry ∷ tree) each =
 pub none-of-tree : (test : Path → Bool) (tree : List (Path × Content)) → ((o : Path) → is_some (at tree o) ≡ true → test o ≡ false) → list_any (λ (entry : Path × Content). test entry.0) tree ≡ false
 none-of-tree test tree each = none-of-entries test tree (λ o has. each o (at-in o tree ∙ has))
 
-no-some : (x : Option Content) → is_some x ≡ false → x ≡ None
+pub no-some : (x : Option Content) → is_some x ≡ false → x ≡ None
 no-some None is = refl
 no-some (Some x) is = absurd (true≢false is)
 
@@ -115,7 +115,7 @@ module _ (s : Sides) (fits : Fits s) (q : Path) (file : is_file (at s.remote q) 
   left-at top false below has = refl
   left-at top true below has = absurd (true≢false (sym (fits.left_there top has) ∙ fits.files q top file below))
 
-  not-needed : is_needed s q ≡ false
+  pub not-needed : is_needed s q ≡ false
   not-needed =
       or_from (list_any (makes_needed s q) (both_paths s)) (list_any (λ top. is_below q top) s.left)
       (none-of-list (makes_needed s q) (both_paths s) (λ o has. or_from (is_below q o && is_some (wanted s o)) (is_from q o && is_staying s o) (want-at o (is_below q o) refl has) (stay-at o (is_from q o) refl)))
@@ -143,7 +143,7 @@ there-file-by s fits q (Some (File d)) (Some (File e)) here there clear file ski
     absurd (false≢true (sym (or_from (is_kept s.passes s.local q) (is_kept s.passes s.remote q) (passes_here ∙ (sym passes_there ∙ skipped)) skipped) ∙ clear.kept))
 there-file-by s fits q (Some Folder) (Some (File e)) here there clear file skipped = nothing-there s fits q e clear here there skipped
 
-there-file-kept : (s : Sides) (fits : Fits s) (q : Path) → IsClear s q → is_file (at s.remote q) ≡ true → is_some (target s q) ≡ true → is_kept s.passes s.remote q ≡ true
+pub there-file-kept : (s : Sides) (fits : Fits s) (q : Path) → IsClear s q → is_file (at s.remote q) ≡ true → is_some (target s q) ≡ true → is_kept s.passes s.remote q ≡ true
 there-file-kept s fits q clear file some =
     true_from_ne_false (is_kept s.passes s.remote q)
     (λ skipped. false≢true (sym (ap (λ (x : Option Content). is_some x) (there-file-by s fits q (at s.local q) (at s.remote q) refl refl clear file skipped)) ∙ some))
@@ -188,7 +188,7 @@ kinds gone folder put leaves q paths there has =
     ∙ ap (λ x. cond (folder q) (Some Folder) x) (kind gone (λ path. None) q (deepest_first paths) there (deepest-in q paths ∙ has)))))
 
 -- a clear path that is on a side is what is to stand there
-known-same : (t r : Option Content) → is_file t ≡ true → t ≡ r → (r ≡ Some (File None) → ⊥) → same t r ≡ true
+pub known-same : (t r : Option Content) → is_file t ≡ true → t ≡ r → (r ≡ Some (File None) → ⊥) → same t r ≡ true
 known-same None r file is known = absurd (false≢true file)
 known-same (Some Folder) r file is known = absurd (false≢true file)
 known-same (Some (File None)) r file is known = absurd (known (sym is))

@@ -10,3 +10,7 @@ pub mod Digests
 pub mod Renames
 pub mod Copying
 pub mod NotKept
+pub mod Order
+pub mod Proper
+pub mod Agreements
+pub mod Turns

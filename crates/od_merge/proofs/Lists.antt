@@ -163,7 +163,7 @@ lt-next a b = lt-next-at (nat_eq a b) (nat_lt a b) a b refl refl
 none-less : (a : ℕ) (b : Bool) → false ≡ (nat_lt a 0 && b)
 none-less a b = sym (and_left (nat_lt a 0) b (false_from_ne_true (nat_lt a 0) (λ less. let is = ltb-true a 0 less in omega (arith, is))))
 
-depth-in : (q : Path) (depth : ℕ) (paths : List Path) → is_in q (by_depth depth paths) ≡ (nat_lt (length q) depth && is_in q paths)
+pub depth-in : (q : Path) (depth : ℕ) (paths : List Path) → is_in q (by_depth depth paths) ≡ (nat_lt (length q) depth && is_in q paths)
 depth-in q zero paths = none-less (length q) (is_in q paths)
 depth-in q (suc depth) paths =
     in-joined q (filter (λ path. nat_eq (length path) depth) paths) (by_depth depth paths)

@@ -89,7 +89,7 @@ needed-more-at false s q p from o first is =
     let parts = and_parts (is_from p o) (is_staying s o) is in
     or_right (is_below q o && is_some (wanted s o)) (is_from q o && is_staying s o) (and_from (is_from q o) (is_staying s o) (from-through q p o from parts.0) parts.1)
 
-needed-more : (s : Sides) (q p : Path) → is_from q p ≡ true → (o : Path) → makes_needed s p o ≡ true → makes_needed s q o ≡ true
+pub needed-more : (s : Sides) (q p : Path) → is_from q p ≡ true → (o : Path) → makes_needed s p o ≡ true → makes_needed s q o ≡ true
 needed-more s q p from o is = needed-more-at (is_below p o && is_some (wanted s o)) s q p from o refl is
 
 -- a path below that is on a side has no target

@@ -13,12 +13,12 @@ use Rattle.od_merge.proofs.SideFacts.{prefixes}
 use Rattle.od_merge.proofs.Needs.{below-from}
 
 -- what begins with a path is from it on
-from-front : (top rest : Path) → is_from top (top ++ rest) ≡ true
+pub from-front : (top rest : Path) → is_from top (top ++ rest) ≡ true
 from-front [] rest = refl
 from-front (name ∷ top) rest = rw (text-self name) (from-front top rest)
 
 -- ---- a path that is not from a rename has what it had
-abbrev is_touched : Path → Path × Path → Bool
+abbrev pub is_touched : Path → Path × Path → Bool
 is_touched q rename = is_from rename.0 q || is_from rename.1 q
 
 moved-at : (t : Bool) (q p : Path) (rename : Path × Path) (rest : Path) → is_from rename.0 p ≡ t → is_from rename.0 q ≡ false → is_from rename.1 q ≡ false → is_path q rest ≡ is_path q p
@@ -46,7 +46,7 @@ at-renamed renames (entry ∷ tree) q none =
     at-step (is_path q entry.0) q (moved renames entry.0, entry.1) entry (renamed_tree renames tree) tree (moved-same renames q entry.0 none) refl refl (at-renamed renames tree q none)
 
 -- ---- a path that no rename is above or below
-abbrev is_near : Path → Path × Path → Bool
+abbrev pub is_near : Path → Path × Path → Bool
 is_near u rename = is_touched u rename || (is_below u rename.0 || is_below u rename.1)
 
 record Near (u : Path) (rename : Path × Path) : Type 0 where

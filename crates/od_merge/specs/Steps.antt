@@ -1,9 +1,11 @@
 -- What the plan has done on each side, and what a side has after steps: a step leaves something, or nothing, at its path.
 use Rattle.std.specs.Prelude.{ℕ, zero, suc, ◌+◌, max, ◌≡◌, Bool, true, false, not, ◌&&◌, ◌||◌, cond, List, [], ◌∷◌, ◌++◌, length, map, filter, is_some, nat_eq, nat_lt, Option, Some, None}
 use Rattle.std.specs.List.{list_any}
+use Rattle.std.specs.List.Sorted.{IsStrictlySortedBy}
+use Rattle.gd_names.specs.Ordered.{path_cmp}
 use Rattle.od_merge.specs.declared.content.Content.{Content}
 use Rattle.od_merge.specs.declared.content.Content.TheVariants.{Folder, File}
-use Rattle.od_merge.specs.Sides.{Path, Tree, Sides, is_path, is_below, is_from, is_kept_there, at, same, is_folder, is_file, is_skipped}
+use Rattle.od_merge.specs.Sides.{Path, Tree, Sides, is_path, is_below, is_from, is_kept_there, at, same, is_folder, is_file, is_skipped, paths_of}
 use Rattle.od_merge.specs.Merging.{all_paths, renamed_tree, target, is_going, is_left, is_conflict}
 
 -- what stands at a path after steps, by what stood there
@@ -97,3 +99,19 @@ pub record IsProper (s : Sides) : Type 0 where
   pub here : (top path : Path) → nat_lt 0 (length top) ≡ true → is_below top path ≡ true → is_some (at s.local path) ≡ true → at s.local top ≡ Some Folder
   pub there : (top path : Path) → nat_lt 0 (length top) ≡ true → is_below top path ≡ true → is_some (at s.remote path) ≡ true → at s.remote top ≡ Some Folder
   pub left_kept : (top : Path) → list_any (is_path top) s.left ≡ true → is_kept_there s top ≡ true
+
+-- what a scan of the folder and a pull of the drive give: trees, the folder's entries in order of path, each once
+pub record AreTrees (s : Sides) : Type 0 where
+  pub in_order : IsStrictlySortedBy path_cmp (paths_of s.local)
+  pub root : at s.local [] ≡ None
+  pub here : (top path : Path) → nat_lt 0 (length top) ≡ true → is_below top path ≡ true → is_some (at s.local path) ≡ true → at s.local top ≡ Some Folder
+  pub there : IsDriveTree s.remote
+
+-- what is so after the renames: both sides are trees, no path is a conflict but those that are left, and none of these is below another one
+pub record AreRenamed (m : Sides) : Type 0 where
+  pub root : at m.local [] ≡ None
+  pub root_there : at m.remote [] ≡ None
+  pub proper : IsProper m
+  pub fits : Fits m
+  pub no_conflict : (path : Path) → is_left m path ≡ false → is_conflict m path ≡ false
+  pub apart : (top other : Path) → list_any (is_path top) m.left ≡ true → list_any (is_path other) m.left ≡ true → is_below top other ≡ false

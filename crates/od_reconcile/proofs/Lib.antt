@@ -6,3 +6,13 @@ pub mod Wanting
 pub mod CopyNames
 pub mod Listed
 pub mod Beside
+pub mod PairFacts
+pub mod Doings
+pub mod HereDoing
+pub mod ThereDoing
+pub mod Careful
+pub mod Merged
+pub mod InOrder
+pub mod InTurn
+pub mod Kept
+pub mod Equal

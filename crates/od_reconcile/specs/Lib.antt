@@ -6,3 +6,5 @@ pub mod Copying
 pub mod Holding
 pub mod Plans
 pub mod Moving
+pub mod Doing
+pub mod Promises

@@ -17,7 +17,7 @@ mod side;
 mod steps;
 mod types;
 
-pub use laws::a_plan_makes_the_target;
+pub use laws::{a_plan_makes_the_target, equal_sides_need_no_plan};
 pub use od_merge::Why;
 pub use planning::plan;
 pub use types::{Down, Held, Node, Plan, Rename, Up};

@@ -5,9 +5,11 @@ ghost use Rattle.od_reconcile.specs.Copying.{copy_path, renamed_entries};
 ghost use Rattle.od_reconcile.specs.Above.{or_else};
 ghost use Rattle.od_reconcile.specs.Entries.{local_tree};
 ghost use Rattle.od_merge.specs.Sides.{is_path};
+ghost use Rattle.od_merge.specs.Steps.{AreTrees};
 ghost use Rattle.od_reconcile.specs.Holding.{limits_of};
 ghost use Rattle.od_reconcile.specs.Looks.{IsMerge, merge_sides};
-ghost use Rattle.od_reconcile.specs.Plans.{HasSteps, IsPlan, IsPlanOf, item_at, rename_of};
+ghost use Rattle.od_reconcile.specs.Plans.{HasSteps, IsPlan, IsPlanOf, begun, item_at, limits_then, rename_of, renamed_sides};
+ghost use Rattle.od_reconcile.specs.Promises.{Keeps};
 ghost use Rattle.od_reconcile.specs.Ready.{IsBothReady, sides_found};
 
 use crate::both::{Both, both_of};
@@ -126,7 +128,9 @@ fn plan_over(
 }
 
 /// What has to be done so that both sides become one: for what both sides agreed on, the folder's entries as a scan found
-/// them, the drive's items, the rules, the name of this host and the paths for which the drive had no room.
+/// them, the drive's items, the rules, the name of this host and the paths for which the drive had no room. Where the
+/// folder and the drive are trees, doing it makes both sides one, each step can be done at its turn, and nothing that the user
+/// changed goes.
 pub fn plan(
     alloc: Global,
     rows: &List<BaseRow>,
@@ -136,7 +140,9 @@ pub fn plan(
     host: &Text,
     quota: &List<Path>,
 ) -> Result<Plan, NoMemory>
-    ensures { IfOk result (λ plan. IsPlan rules.now host.now rows.now local.now (paths_of remote.now.items) quota.now plan) }
+    ensures is { IfOk result (λ plan. IsPlan rules.now host.now rows.now local.now (paths_of remote.now.items) quota.now plan) }
+    ensures keeps { IfOk result (λ plan. AreTrees (begun rules.now rows.now local.now (paths_of remote.now.items))
+        → Keeps (limits_then rules.now host.now rows.now local.now (paths_of remote.now.items) quota.now) (renamed_sides rules.now host.now rows.now local.now (paths_of remote.now.items)) plan) }
 {
     let items = remote.paths(alloc)?;
     let here = local_tree(alloc, local.as_slice())?;
