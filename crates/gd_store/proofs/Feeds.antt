@@ -1,6 +1,6 @@
 -- The first records of a feed, from the first living items and the first tombstones.
-use Rattle.std.proofs.Common.{◌≡◌, ℕ, ◌+◌, ◌-◌, ◌<◌, ◌≤◌, ◌⊎◌, ◌^◌, zero, suc, inl, inr, Bool, true, false, ◌&&◌, cond, not, max, nat_eq, nat_lt, leb, List, [], ◌∷◌, ◌++◌, length, take, drop, map, filter, slice_index, get_or, min, Option, Some, None, refl, sym, ap, ◌∙◌, subst, arith}
-use Rattle.std.specs.List.{All, AllPairs, AllByRecursion, AllWithin}
+use Rattle.std.proofs.Common.{◌≡◌, ℕ, ◌+◌, ◌-◌, ◌<◌, ◌≤◌, ◌⊎◌, ◌^◌, zero, suc, inl, inr, Bool, true, false, ◌&&◌, cond, not, max, nat_eq, nat_lt, leb, List, [], ◌∷◌, ◌++◌, length, take, drop, map, filter, slice_index, get_or, min, Some, None, refl, sym, ap, ◌∙◌, subst, arith}
+use Rattle.std.specs.List.{AllPairs, AllByRecursion, AllWithin}
 use Rattle.std.specs.List.Sorted.{IsNonDecreasingBy, IsPartitionPoint}
 use Rattle.std.specs.Ordering.{nat_cmp, match_ordering}
 use Rattle.std.specs.declared.cmp.Ordering.{Ordering}
@@ -14,7 +14,7 @@ use Rattle.std.proofs.lemmas.List.Kept.{AllPairs-filter}
 use Rattle.std.proofs.lemmas.Map.Lookups.{exact_unsigned}
 use Rattle.gd_names.proofs.Each.{AllPairs-tail, each, each-later, each-so}
 use Rattle.gd_names.proofs.Small.{not-below}
-use Rattle.gd_item.specs.Inventory.{Inventory, live_at}
+use Rattle.gd_item.specs.Inventory.{Inventory}
 use Rattle.gd_item.specs.Records.{in_change_order_from, root_change, root_record, record_of, live_changes, removals, feed, first_of, last_of}
 use Rattle.gd_item.specs.Sound.{IsWithin}
 use Rattle.gd_item.specs.declared.item.Item.{Item}

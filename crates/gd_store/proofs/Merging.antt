@@ -1,5 +1,5 @@
 -- Changes in order that are put among others in order, and the first of them.
-use Rattle.std.proofs.Common.{◌≡◌, ℕ, ◌<◌, ◌≤◌, ◌⊎◌, zero, suc, inl, inr, true, false, cond, nat_lt, List, [], ◌∷◌, take, refl, sym, ap, ◌∙◌, subst, arith}
+use Rattle.std.proofs.Common.{◌≡◌, ℕ, ◌<◌, ◌≤◌, ◌⊎◌, zero, suc, inl, inr, nat_lt, List, [], ◌∷◌, take, refl, sym, ap, ◌∙◌, subst, arith}
 use Rattle.std.specs.Cmp.{nat_cmp_is}
 use Rattle.std.specs.List.{AllByRecursion}
 use Rattle.std.specs.Ordering.{nat_cmp, match_ordering}
@@ -13,7 +13,7 @@ use Rattle.gd_names.proofs.Each.{each-so}
 use Rattle.gd_names.proofs.Small.{not-below}
 use Rattle.gd_item.specs.Records.{in_change_order_from}
 use Rattle.gd_item.specs.declared.item.Item.{Item}
-use Rattle.gd_store.proofs.Folds.{by-order, each-key}
+use Rattle.gd_store.proofs.Folds.{each-key}
 
 -- each change is past a number, and changes rise
 abbrev pub Above : ℕ → List (ℕ × Item) → Type 0

@@ -1,15 +1,15 @@
 -- Items of which one is moved: their paths, and whether one of them is too long.
-use Rattle.std.proofs.Common.{◌≡◌, ℕ, ◌-◌, zero, suc, Bool, true, false, ◌&&◌, ◌||◌, cond, nat_eq, List, [], ◌∷◌, length, map, filter, Option, Some, None, refl, sym, ap, ◌∙◌, subst}
+use Rattle.std.proofs.Common.{◌≡◌, ℕ, ◌-◌, zero, suc, Bool, true, false, ◌&&◌, ◌||◌, cond, nat_eq, List, [], ◌∷◌, length, map, filter, Option, Some, None, refl, sym, ap, ◌∙◌}
 use Rattle.std.specs.List.{list_any}
 use Rattle.std.specs.Option.{option_map}
-use Rattle.std.proofs.lemmas.Bool.{eq-eqb, eqb-true, ne_eqb}
+use Rattle.std.proofs.lemmas.Bool.{eq-eqb, ne_eqb}
 use Rattle.std.proofs.lemmas.List.{length-map}
 use Rattle.gd_item.specs.declared.live.LiveItem.{LiveItem}
-use Rattle.gd_item.specs.Inventory.{Inventory, Moved, after, changed, live_at, with_place}
-use Rattle.gd_item.specs.Moves.{is_parent_such, is_node_such, is_in_within, is_in, is_any_too_long}
+use Rattle.gd_item.specs.Inventory.{changed, live_at, with_place}
+use Rattle.gd_item.specs.Moves.{is_parent_such, is_node_such, is_in_within, is_in}
 use Rattle.gd_item.specs.Nodes.{Node, live_node, node_at, is_folder, below, path_within, path_of}
 use Rattle.gd_item.specs.Refusals.{is_too_long}
-use Rattle.gd_item.proofs.Moving.{moved, other-kept, folder-moved}
+use Rattle.gd_item.proofs.Moving.{other-kept, folder-moved}
 use Rattle.gd_laws.proofs.Living.{live-changed}
 use Rattle.gd_store.specs.Moved.{is_any_long, numbers_in, place_of}
 use Rattle.gd_store.proofs.Climbs.{nothing, no-folder, with-folder}

@@ -1,5 +1,5 @@
 -- The records of items that are found, added and changed.
-use Rattle.std.proofs.Common.{◌≡◌, ℕ, ◌+◌, ◌<◌, Bool, true, false, not, ◌||◌, cond, nat_eq, List, [], ◌∷◌, ◌++◌, map, filter, is_some, Option, Some, None, refl, sym, ap, ◌∙◌, subst, eq-eqb, arith}
+use Rattle.std.proofs.Common.{◌≡◌, ℕ, ◌<◌, Bool, true, false, not, ◌||◌, cond, nat_eq, List, [], ◌∷◌, ◌++◌, map, filter, is_some, Option, Some, None, refl, sym, ap, ◌∙◌, eq-eqb, arith}
 use Rattle.std.specs.List.{All, AllByRecursion}
 use Rattle.std.specs.Option.{option_map}
 use Rattle.std.proofs.lemmas.Bool.{ne_eqb, or_parts}
@@ -15,7 +15,6 @@ use Rattle.gd_item.specs.declared.item.Kind.{Kind}
 use Rattle.gd_item.specs.declared.item.Kind.TheVariants.{Folder, File}
 use Rattle.gd_item.specs.declared.live.LiveItem.{LiveItem}
 use Rattle.gd_item.proofs.Soundness.{nodes-over}
-use Rattle.gd_laws.proofs.Found.{node-of-live}
 use Rattle.gd_laws.proofs.Living.{live-changed}
 use Rattle.gd_index.specs.Indexed.{digest_in, digest_of_live}
 use Rattle.gd_store.specs.Recorded.{record_in, recorded_at, without_kind}

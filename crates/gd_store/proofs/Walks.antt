@@ -1,5 +1,5 @@
 -- What stands below a number, from folder to folder downwards.
-use Rattle.std.proofs.Common.{◌≡◌, ℕ, ◌+◌, ◌-◌, ◌<◌, zero, suc, Bool, true, false, ◌&&◌, ◌||◌, cond, nat_eq, List, [], ◌∷◌, length, map, filter, is_some, Option, Some, None, refl, sym, ap, ◌∙◌, subst, arith}
+use Rattle.std.proofs.Common.{◌≡◌, ℕ, ◌<◌, zero, suc, Bool, true, false, ◌&&◌, ◌||◌, cond, nat_eq, List, [], ◌∷◌, length, map, filter, is_some, Option, Some, None, refl, sym, ap, ◌∙◌, subst, arith}
 use Rattle.std.specs.Cmp.{nat_cmp_is}
 use Rattle.std.specs.FinMap.Entries.{find, same_entries}
 use Rattle.std.specs.List.{AllPairs, AllByRecursion, list_any}
@@ -16,7 +16,7 @@ use Rattle.gd_names.proofs.Each.{AllPairs-tail, each-later}
 use Rattle.gd_item.specs.Children.{children_past}
 use Rattle.gd_item.specs.Inventory.{live_at}
 use Rattle.gd_item.specs.Moves.{is_node_such, is_in_within, is_in}
-use Rattle.gd_item.specs.Nodes.{Node, live_node, node_at}
+use Rattle.gd_item.specs.Nodes.{Node, live_node}
 use Rattle.gd_item.specs.declared.live.LiveItem.{LiveItem}
 use Rattle.gd_laws.proofs.Found.{node-of-live}
 use Rattle.gd_index.proofs.Lines.{query}

@@ -101,6 +101,7 @@ impl Items {
             (λ id. (id ≡ item_id self.old.next) × (self.new ≡ after self.old (make_folder_effect self.old parent name.now behaviour))) }
         ensures kept { OnErr result (self.new ≡ self.old) }
     {
+        // What always holds of a store is used below.
         let _ = &self.index;
         let free = self.name_of_folder(parent, name, behaviour)?;
         let id = self.add_folder(parent, free)?;
@@ -141,6 +142,7 @@ impl Items {
             × (self.new ≡ after self.old (make_folder_effect self.old parent name.now behaviour))) }
         ensures kept { OnErr result (self.new ≡ self.old) }
     {
+        // What always holds of a store is used below.
         let _ = &self.index;
         let free = self.name_of_folder(parent, name, behaviour)?;
         let made = self.add_folder_and_get(parent, free)?;

@@ -215,6 +215,7 @@ impl Items {
             (λ put. (put ≡ (item_id number, false)) × (self.new ≡ after self.old (PutOver number bytes.now))) }
         ensures kept { OnErr result (self.new ≡ self.old) }
     {
+        // What always holds of a store is used below.
         let _ = &self.index;
         self.allow_over(number, bytes, condition, others)?;
         let copy = Bytes::from_slice(self.alloc, bytes)?;
@@ -237,6 +238,7 @@ impl Items {
             × (self.new ≡ after self.old (file_effect parent name.now bytes.now (settled_in self.old parent name.now behaviour false)))) }
         ensures kept { OnErr result (self.new ≡ self.old) }
     {
+        // What always holds of a store is used below.
         let _ = &self.index;
         let settle = self.settle_under(parent, name, bytes, behaviour, condition, others)?;
         let copy = Bytes::from_slice(self.alloc, bytes)?;
@@ -312,6 +314,7 @@ impl Items {
             (λ put. ((record_after self.old (PutOver number bytes.now) ≡ Some put.0) × (put.1 ≡ false)) × (self.new ≡ after self.old (PutOver number bytes.now))) }
         ensures kept { OnErr result (self.new ≡ self.old) }
     {
+        // What always holds of a store is used below.
         let _ = &self.index;
         self.allow_over(number, bytes, condition, others)?;
         let copy = Bytes::from_slice(self.alloc, bytes)?;
@@ -335,6 +338,7 @@ impl Items {
             × (self.new ≡ after self.old (file_effect parent name.now bytes.now (settled_in self.old parent name.now behaviour false)))) }
         ensures kept { OnErr result (self.new ≡ self.old) }
     {
+        // What always holds of a store is used below.
         let _ = &self.index;
         let settle = self.settle_under(parent, name, bytes, behaviour, condition, others)?;
         let copy = Bytes::from_slice(self.alloc, bytes)?;

@@ -179,6 +179,7 @@ impl Items {
             (λ _. self.new ≡ after self.old (patch_effect self.old number (option_copied name.entry) (id_number parent))) }
         ensures kept { OnErr result (self.new ≡ self.old) }
     {
+        // What always holds of a store is used below.
         let _ = &self.index;
         let target = self.allow_move(number, name, parent, condition)?;
         let (to, named) = target;
@@ -215,6 +216,7 @@ impl Items {
             × (self.new ≡ after self.old (patch_effect self.old number (option_copied name.entry) (id_number parent)))) }
         ensures kept { OnErr result (self.new ≡ self.old) }
     {
+        // What always holds of a store is used below.
         let _ = &self.index;
         let target = self.allow_move(number, name, parent, condition)?;
         let (to, named) = target;

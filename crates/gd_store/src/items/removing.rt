@@ -67,6 +67,7 @@ impl Items {
         if number == 1 {
             return Err(StoreFault::Root);
         }
+        // What always holds of a store is used below.
         let _ = &self.index;
         let order = self.order_of_removal(number)?;
         let is_met = self.meets_at(number, condition)?;

@@ -1,7 +1,6 @@
 use denote.Bor.{Bor}
-use Rattle.std.proofs.Common.{◌≡◌, ◌<◌, ◌≤◌, ◌^◌, ◌∙◌, ap, arith, length, List, map, nat_lt, Some, refl, subst, take, true}
+use Rattle.std.proofs.Common.{◌≡◌, ◌∙◌, ap, length, List, nat_lt, Some, refl, subst, take, true}
 use Rattle.std.specs.Option.{option_copied}
-use Rattle.std.proofs.lemmas.List.{length-map}
 use Rattle.gd_item.specs.Children.{children_past}
 use Rattle.gd_item.specs.Inventory.{Inventory, live_at}
 use Rattle.gd_item.specs.Records.{record_with}
