@@ -1,5 +1,5 @@
 -- A connection, message by message.
-use Rattle.std.proofs.Common.{◌≡◌, ℕ, ◌+◌, ◌-◌, ◌^◌, ◌<◌, ◌≤◌, min, true, false, List, [], ◌∷◌, ◌++◌, ◌⊎◌, length, take, Option, Some, Result, Ok, Err, inl, inr, refl, sym, ap, subst, ◌∙◌, arith, append_assoc, append-nil, length-append}
+use Rattle.std.proofs.Common.{◌≡◌, ℕ, ◌+◌, ◌-◌, ◌^◌, ◌<◌, ◌≤◌, min, true, false, List, [], ◌∷◌, ◌++◌, length, take, Option, Some, Err, inl, inr, refl, sym, ap, subst, ◌∙◌, arith, append_assoc, append-nil, length-append}
 use Rattle.std.proofs.Math.Seq.{take-append-add, take-length}
 use Rattle.gd_names.specs.Streams.{Writes}
 use Rattle.gd_names.specs.declared.sink.SinkFault.{SinkFault}
@@ -9,7 +9,7 @@ use Rattle.gd_http.specs.WrittenReplies.{written_reply}
 use Rattle.gd_item.specs.declared.reply.Reply.{Reply}
 use Rattle.gd_item.specs.declared.request.Request.{Request}
 use Rattle.gd_server.specs.Inboxes.{unread, IsReady, Heard, Silent}
-use Rattle.gd_server.specs.Messages.{most_messages, IsMessage, Front, IsOpen, IsClosed, IsAll, Behind, EndsBehind, Counts, BeginsCounted}
+use Rattle.gd_server.specs.Messages.{most_messages, Front, IsOpen, Behind, Counts, BeginsCounted}
 use Rattle.gd_server.specs.Replies.{Says, Answers, texts, refusal_of, last_text}
 use Rattle.gd_server.specs.Serving.{Gave, Sent, SentPart, SentAt, Replied, end_of, Serves}
 use Rattle.gd_server.specs.declared.inbox.Inbox.{Inbox}

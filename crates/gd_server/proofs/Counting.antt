@@ -1,5 +1,5 @@
 -- Counts that go on, or stand still.
-use Rattle.std.proofs.Common.{◌≡◌, ◌≢◌, ℕ, zero, suc, ◌+◌, ◌-◌, ◌^◌, ◌<◌, ◌≤◌, min, max, List, [], Option, Some, refl, sym, ap, ◌∙◌, arith}
+use Rattle.std.proofs.Common.{◌≡◌, ℕ, zero, suc, ◌+◌, ◌-◌, ◌^◌, ◌<◌, List, [], Option, Some, refl, ap, ◌∙◌, arith}
 use Rattle.gd_names.specs.Counts.{Counts, counted_after}
 use Rattle.gd_names.specs.Streams.{Rose}
 use Rattle.gd_server.specs.Counts.{risen, HandedOn}

@@ -1,5 +1,5 @@
 -- What a drive answers, read as steps of its log.
-use Rattle.std.proofs.Common.{◌≡◌, ◌≢◌, ℕ, zero, suc, ◌+◌, ◌-◌, ◌^◌, ◌<◌, Bool, true, false, List, [], ◌∷◌, ◌++◌, ◌⊎◌, Option, inl, inr, refl, sym, ap, subst, ◌∙◌, arith}
+use Rattle.std.proofs.Common.{◌≡◌, ℕ, Bool, true, false, List, [], ◌∷◌, ◌++◌, Option, inl, inr, refl, sym, ap, subst, ◌∙◌}
 use Rattle.gd_api.specs.Drives.{DriveValue, Stands, Handles}
 use Rattle.gd_http.specs.declared.incoming.Incoming.{Incoming}
 use Rattle.gd_http.specs.declared.incoming.Incoming.TheVariants as incoming

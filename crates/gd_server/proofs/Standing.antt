@@ -1,9 +1,9 @@
 -- Messages that stand one behind another, and the replies to them.
-use Rattle.std.proofs.Common.{◌≡◌, ℕ, ◌+◌, ◌-◌, ◌^◌, ◌<◌, ◌≤◌, min, Bool, true, false, List, [], ◌∷◌, ◌++◌, ◌⊎◌, length, Option, Some, inl, inr, refl, sym, ap, subst, ◌∙◌, arith, append_assoc, append-nil, length-append}
+use Rattle.std.proofs.Common.{◌≡◌, ℕ, ◌+◌, ◌<◌, ◌≤◌, Bool, true, false, List, [], ◌∷◌, ◌++◌, length, inl, inr, refl, sym, ap, subst, ◌∙◌, arith, append_assoc, append-nil, length-append}
 use Rattle.gd_http.specs.WrittenReplies.{written_reply}
 use Rattle.gd_item.specs.declared.reply.Reply.{Reply}
 use Rattle.gd_item.specs.declared.request.Request.{Request}
-use Rattle.gd_server.specs.Messages.{most_messages, IsMessage, Front, IsOpen, IsClosed, Begins, BeginsCounted}
+use Rattle.gd_server.specs.Messages.{most_messages, IsMessage, Front, BeginsCounted}
 use Rattle.gd_server.specs.Replies.{Says, Answers, texts}
 use Rattle.gd_server.specs.declared.inbox.Message.{Message}
 

@@ -1,4 +1,4 @@
-use Rattle.std.proofs.Common.{ℕ, ◌≤◌, ◌<◌, sym, arith}
+use Rattle.std.proofs.Common.{arith}
 use Rattle.gd_server.proofs.Conversing.{so_far_none, so_far_more, serves_nothing, serves_silent, serves_broken, serves_closed}
 use Rattle.gd_server.proofs.connection.converse.Goals as goal
 

@@ -1,4 +1,4 @@
-use Rattle.std.proofs.Common.{ℕ, ◌≤◌, arith}
+use Rattle.std.proofs.Common.{arith}
 use Rattle.gd_server.proofs.Counting.{going_one}
 use Rattle.gd_server.proofs.serving.serve_all.Goals as goal
 

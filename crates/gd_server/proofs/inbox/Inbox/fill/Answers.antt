@@ -1,4 +1,4 @@
-use Rattle.std.proofs.Common.{◌≤◌, ◌<◌, ℕ, length, refl, arith}
+use Rattle.std.proofs.Common.{refl, arith}
 use Rattle.gd_server.proofs.Pieces.{still_filled, filled, over}
 use Rattle.gd_server.proofs.inbox.Inbox.fill.Goals as goal
 

@@ -1,4 +1,4 @@
-use Rattle.std.proofs.Common.{ℕ, ◌≤◌, arith}
+use Rattle.std.proofs.Common.{arith}
 use Rattle.gd_server.proofs.Pieces.{waits_filled, waits_needed, heard_done, silent_bad, silent_memory}
 use Rattle.gd_server.proofs.inbox.Inbox.next.Goals as goal
 

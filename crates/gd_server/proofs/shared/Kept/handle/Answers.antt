@@ -1,4 +1,3 @@
-use Rattle.std.proofs.Common.{ℕ, List}
 use Rattle.std.proofs.Math.Logic.{∥∥₁_map}
 use Rattle.gd_server.proofs.Logging.{log_more, answered_somewhere}
 use Rattle.gd_server.proofs.shared.Kept.handle.Goals as goal
