@@ -1,8 +1,6 @@
 pub mod Accepting
 pub mod Among
 pub mod Chaining
-pub mod Conditions
-pub mod Falling
 pub mod Feeding
 pub mod Goods
 pub mod Holding
@@ -10,9 +8,6 @@ pub mod Keeping
 pub mod Lasts
 pub mod Legal
 pub mod Losing
-pub mod Once
 pub mod Origins
-pub mod Parts
 pub mod Scanning
 pub mod Truths
-pub mod Uploading

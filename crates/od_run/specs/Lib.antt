@@ -1,11 +1,8 @@
 pub mod Acting
 pub mod Chains
-pub mod Conditions
-pub mod Falling
 pub mod Good
 pub mod Knowing
 pub mod Moments
 pub mod Settling
 pub mod Truths
-pub mod Uploading
 pub mod Worlds

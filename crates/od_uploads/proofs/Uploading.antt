@@ -36,9 +36,9 @@ use Rattle.od_tree.specs.declared.step.LocalStep.{LocalStep}
 use Rattle.od_tree.specs.declared.step.LocalStep.TheVariants.{User, Op}
 use Rattle.od_run.specs.Acting.{IsPart, LegalFrom, May, MayRequest}
 use Rattle.od_run.specs.Knowing.{Known, Path, Sending, There, address_path, after_effects, begins, last_read, learn, reading_at_path, reading_for, sending_of, sent_as, there_after, there_asked, there_brought, there_heard}
-use Rattle.od_run.specs.Uploading.{IsReading, OwnPutsReading, PutsReading, UploadsReadings}
+use Rattle.od_uploads.specs.Uploading.{IsReading, OwnPutsReading, PutsReading, UploadsReadings}
 use Rattle.od_run.specs.Worlds.{World, Event, Asked, Worked, Kept, happens, now, steps_in}
-use Rattle.od_run.proofs.Parts.{IsFilledBy, Live, at-gone, at-last, at-other, at-same, at-without, first-is, grown, grown-filled, grown_at, whole-at-finish, whole-at-last}
+use Rattle.od_uploads.proofs.Parts.{IsFilledBy, Live, at-gone, at-last, at-other, at-same, at-without, first-is, grown, grown-filled, grown_at, whole-at-finish, whole-at-last}
 use Rattle.od_run.proofs.Truths.{all-read, here-read, reading-later}
 
 abbrev Readings : Type 0

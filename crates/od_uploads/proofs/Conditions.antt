@@ -48,15 +48,15 @@ use Rattle.gd_laws.proofs.Every.{every-drive}
 use Rattle.gd_laws.specs.EveryDrive.{IsOpen}
 use Rattle.od_tree.specs.declared.step.LocalStep.TheVariants.{User, Op}
 use Rattle.od_run.specs.Acting.{AsPulled, HasTag, IsSentTo, LegalFrom, May, MayRequest}
-use Rattle.od_run.specs.Conditions.{HasCondition, HasSameTag, OwnHasCondition, UploadsUnderCondition}
+use Rattle.od_uploads.specs.Conditions.{HasCondition, HasSameTag, OwnHasCondition, UploadsUnderCondition}
 use Rattle.od_run.specs.Good.{AreSound, Good, IfPulled, IsPulledAt}
 use Rattle.od_run.specs.Knowing.{Known, Sending, There, after_effects, begins, learn, reading_for, sending_of, sent_as, there_after, there_asked, there_brought, there_heard}
 use Rattle.od_run.specs.Moments.{is_own_delta, last_asked}
 use Rattle.od_run.specs.Worlds.{World, Event, Asked, Worked, Kept, happens, now, steps_in}
 use Rattle.od_run.proofs.Goods.{good-after, good-beginning}
 use Rattle.od_run.proofs.Lasts.{last-missed}
-use Rattle.od_run.proofs.Parts.{at-gone, at-last, at-other, at-same, at-without, grown, grown_at}
-use Rattle.od_run.proofs.Uploading.{effects-sending, new-at, none-at, number-apart, openers-grow, state-next}
+use Rattle.od_uploads.proofs.Parts.{at-gone, at-last, at-other, at-same, at-without, grown, grown_at}
+use Rattle.od_uploads.proofs.Uploading.{effects-sending, new-at, none-at, number-apart, openers-grow, state-next}
 
 -- ---- a put over an item
 only-one : (p : Bool) → (false || (p || false) || false) ≡ true → p ≡ true

@@ -13,7 +13,7 @@ use Rattle.gd_item.specs.declared.step.Who.TheVariants.{Own, Other}
 use Rattle.od_tree.specs.declared.step.LocalStep.TheVariants.{User, Op}
 use Rattle.od_run.specs.Acting.{LegalFrom, MayRequest}
 use Rattle.od_run.specs.Knowing.{Known, There, after_effects, begins, learn, there_after, there_asked, there_brought, there_heard}
-use Rattle.od_run.specs.Uploading.{IsSentOnce, SendsOnce, sent_to}
+use Rattle.od_uploads.specs.Uploading.{IsSentOnce, SendsOnce, sent_to}
 use Rattle.od_run.specs.Worlds.{World, Event, Asked, Worked, Kept, happens, steps_in}
 
 -- what a request brings about leaves where files were sent

@@ -1,5 +1,0 @@
-use Rattle.od_run.proofs.Once.{sends-once}
-use Rattle.od_run.proofs.laws.it_sends_once.Goals as goal
-
-pub returns : goal.returns
-returns c = sends-once

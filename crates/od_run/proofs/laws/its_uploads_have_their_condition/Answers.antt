@@ -1,5 +1,0 @@
-use Rattle.od_run.proofs.Conditions.{under-condition-always}
-use Rattle.od_run.proofs.laws.its_uploads_have_their_condition.Goals as goal
-
-pub returns : goal.returns
-returns c = under-condition-always
