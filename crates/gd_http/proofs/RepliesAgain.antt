@@ -1,24 +1,24 @@
 -- Written replies are read again as what they were written for.
-use Rattle.std.proofs.Common.{◌≡◌, ℕ, ◌+◌, ◌/◌, ◌%◌, ◌^◌, ◌<◌, ◌≤◌, Bool, true, false, not, ◌&&◌, ◌||◌, nat_eq, List, [], ◌∷◌, ◌++◌, map, length, drop, take, All, Option, Some, None, Result, Ok, Err, refl, sym, ap, ◌∙◌, subst, ⊎_elim, arith, append_assoc, append-nil, length-append, lit≤, lit<}
-use Rattle.std.specs.Prelude.{codes, option_map, option_and_then}
+use Rattle.std.proofs.Common.{◌≡◌, ℕ, ◌+◌, ◌/◌, ◌%◌, ◌^◌, ◌<◌, ◌≤◌, Bool, true, false, not, ◌||◌, nat_eq, List, [], ◌∷◌, ◌++◌, map, length, take, All, Option, Some, None, Result, Ok, Err, refl, sym, ap, ◌∙◌, subst, arith, append_assoc, append-nil, length-append, lit≤, lit<}
+use Rattle.std.specs.Prelude.{codes, option_map}
 use Rattle.std.specs.Char.{is_ascii_digit}
 use Rattle.std.specs.Cmp.Lexicographic.{pointwise, bytes_decides}
 use Rattle.std.specs.Fmt.{decimal}
 use Rattle.std.specs.List.{flat_map, list_all}
-use Rattle.std.specs.Str.Parse.{AllDigits, digits_value}
+use Rattle.std.specs.Str.Parse.{AllDigits}
 use Rattle.std.proofs.Math.Seq.{take-append_seam, drop-append_seam}
-use Rattle.std.proofs.lemmas.Bool.{and_parts, cond-true, eqb-true, eq-eqb}
+use Rattle.std.proofs.lemmas.Bool.{and_parts, eqb-true}
 use Rattle.std.proofs.lemmas.Bool.Decides.{nat_tests}
 use Rattle.std.proofs.lemmas.Fmt.{decimal_is_IsNumeral, decimal_step, decimal_digit}
 use Rattle.std.proofs.lemmas.List.Elements.{All-nil, All-cons}
 use Rattle.std.proofs.lemmas.Str.Parse.{digit_from_value}
-use Rattle.httparse.specs.Grammar.{ResponseHead, IsResponseHead, print_response, print_field, AllPass, is_value_byte, status_code, crlf}
+use Rattle.httparse.specs.Grammar.{ResponseHead, IsResponseHead, print_response, print_field, is_value_byte, status_code, crlf}
 use Rattle.httparse.specs.Spans.{name_and_value}
 use Rattle.httparse.proofs.GrammarLemmas.{print_response-append}
 use Rattle.serde_json.specs.Data.{Data}
 use Rattle.serde_json.specs.Read.{read}
 use Rattle.std.specs.Str.{is_utf8}
-use Rattle.gd_item.specs.Replies.{has_status, is_refused, is_accepted_reply, may_answer, status_of_reply}
+use Rattle.gd_item.specs.Replies.{has_status, may_answer, status_of_reply}
 use Rattle.gd_item.specs.declared.fault.ErrorCode.{ErrorCode}
 use Rattle.gd_item.specs.declared.fault.ErrorCode.TheVariants as code
 use Rattle.gd_item.specs.declared.id.ItemId.{ItemId}
@@ -37,7 +37,6 @@ use Rattle.gd_json.specs.Faults.{◌>>=◌}
 use Rattle.gd_json.specs.Items.{item_at}
 use Rattle.gd_json.specs.Links.{past}
 use Rattle.gd_json.specs.Lists.{children_at, page_at}
-use Rattle.gd_json.specs.Numbers.{id_written}
 use Rattle.gd_json.specs.Sessions.{status_at, session_at}
 use Rattle.gd_json.specs.declared.fault.JsonFault.{JsonFault}
 use Rattle.gd_json.specs.declared.session.SessionBody.{SessionBody}
@@ -45,16 +44,16 @@ use Rattle.gd_target.specs.Targets.{download_text, delta_text}
 use Rattle.gd_target.proofs.Plain.{Passes, literal, joined, is_visible}
 use Rattle.gd_target.proofs.Again.{found_again, download_visible}
 use Rattle.gd_frame.specs.Framing.{framing, reply_without_length}
-use Rattle.gd_frame.specs.Frames.{field, reply_frame, IsReply}
+use Rattle.gd_frame.specs.Frames.{field, reply_frame}
 use Rattle.gd_frame.specs.Messages.{IsMessage}
 use Rattle.gd_frame.specs.Syntax.{replies}
 use Rattle.gd_frame.specs.declared.frame.Field.{Field}
-use Rattle.gd_http.specs.Answering.{item_in, list_in, session_in, expected_in, error_in, location_of, found_at, found_behind, found_below, found_in, is_feed, okay_of, moved_of, resync_of, gone_of, refused_of, reply_of}
+use Rattle.gd_http.specs.Answering.{item_in, list_in, session_in, expected_in, error_in, location_of, found_behind, found_below, found_in, is_feed, okay_of, moved_of, resync_of, gone_of, refused_of, reply_of}
 use Rattle.gd_http.specs.Headers.{value_in}
 use Rattle.gd_http.specs.HearingReplies.{Listening, reply_of_frame, ReplyBytes}
 use Rattle.gd_http.specs.Sending.{reply_body, reply_head, IsWrittenReply, IsAnswer, IsKnownReply, HasReplyBody}
 use Rattle.gd_http.specs.Written.{line_end, field_text, type_text, length_text, body_text}
-use Rattle.gd_http.specs.WrittenReplies.{phrase_of, version_text, status_text, link_field, location_header, code_of, json_of, bytes_type, type_header, bytes_of, length_header, reply_front, reply_rest, written_reply}
+use Rattle.gd_http.specs.WrittenReplies.{phrase_of, version_text, status_text, link_field, location_header, code_of, json_of, bytes_type, type_header, length_header, reply_front, written_reply}
 use Rattle.gd_http.proofs.RequestsAgain.{json_type, joins}
 use Rattle.gd_http.proofs.Sections.{base_is_visible, length_again, IsHeader, line_of, visible_header, fields_are, values_are, Prints, prints_none, prints_one, prints_both, type_token, location_token, length_header_is}
 

@@ -1,9 +1,8 @@
 -- Written requests are read again as what they were written for.
-use Rattle.std.proofs.Common.{◌≡◌, ℕ, ◌^◌, ◌<◌, ◌≤◌, true, not, nat_eq, List, [], ◌∷◌, ◌++◌, map, length, drop, All, Option, Some, None, Ok, refl, sym, ap, ◌∙◌, subst, arith, append_assoc, append-nil, length-append, lit≤, lit<}
+use Rattle.std.proofs.Common.{◌≡◌, ℕ, ◌^◌, ◌<◌, ◌≤◌, true, not, nat_eq, List, [], ◌∷◌, ◌++◌, map, length, drop, All, Option, Some, None, Ok, refl, sym, ap, ◌∙◌, subst, arith, append_assoc, append-nil, lit≤, lit<}
 use Rattle.std.specs.Prelude.{codes}
 use Rattle.std.specs.Fmt.{decimal}
 use Rattle.std.specs.List.{flat_map}
-use Rattle.std.specs.Str.{is_utf8}
 use Rattle.std.specs.Str.Parse.{AllDigits}
 use Rattle.std.proofs.lemmas.Bool.{ne_eqb}
 use Rattle.std.proofs.lemmas.Bool.Decides.{nat_tests}
@@ -14,7 +13,7 @@ use Rattle.std.proofs.lemmas.Str.Parse.{digit_from_value}
 use Rattle.httparse.specs.Grammar.{RequestHead, IsRequestHead, print_request, print_field, IsToken, is_token_byte, is_uri_byte, is_value_byte, crlf}
 use Rattle.httparse.specs.Spans.{name_and_value}
 use Rattle.httparse.proofs.GrammarLemmas.{print_request-append}
-use Rattle.gd_names.specs.Escapes.{escaped, unescaped, IsSegmentName}
+use Rattle.gd_names.specs.Escapes.{escaped, IsSegmentName}
 use Rattle.gd_names.specs.declared.conflict.Conflict.{Conflict}
 use Rattle.gd_names.specs.declared.conflict.Conflict.TheVariants.{Fail, Replace, Rename}
 use Rattle.gd_names.proofs.ReadBack.{escapes_read_back}
@@ -31,27 +30,24 @@ use Rattle.gd_json.specs.Links.{past}
 use Rattle.gd_json.specs.Numbers.{number_of_text}
 use Rattle.gd_json.proofs.Ids.{number_again}
 use Rattle.gd_target.specs.Asked.{resource_asked, query_asked, IsKnown, IsReadAgain}
-use Rattle.gd_target.specs.Cuts.{cut, parts, parts_after}
+use Rattle.gd_target.specs.Cuts.{cut, parts}
 use Rattle.gd_target.specs.Faults.{◌>>=◌}
-use Rattle.gd_target.specs.Queries.{value_in as member_in, once, query_values}
-use Rattle.gd_target.specs.declared.query.QueryMember.TheVariants.{Behaviour, SkipToken, Token}
+use Rattle.gd_target.specs.Queries.{value_in as member_in}
 use Rattle.gd_target.specs.Targets.{target_text}
 use Rattle.gd_target.proofs.Plain.{Passes, literal, joined, weaker, is_plain, is_visible, is_member_byte, plain_visible, plain_member, member_no_and, name_plain, decimal_plain}
 use Rattle.gd_target.proofs.Again.{read_again, cut_nowhere, cut_there}
 use Rattle.gd_target.proofs.Cutting.{parts_cut}
 use Rattle.gd_frame.specs.Framing.{framing}
-use Rattle.gd_frame.specs.Frames.{field, request_frame, IsRequest}
+use Rattle.gd_frame.specs.Frames.{field, request_frame}
 use Rattle.gd_frame.specs.Messages.{IsMessage}
 use Rattle.gd_frame.specs.Syntax.{requests}
-use Rattle.gd_frame.specs.declared.frame.Field.{Field}
 use Rattle.gd_http.specs.declared.incoming.Incoming.TheVariants.{Ask}
-use Rattle.gd_http.specs.declared.range.Range.{Range}
-use Rattle.gd_http.specs.Asking.{ask, method_of, behaviour_at, after_at, token_at, on_item, on_children, on_content, on_uploads, on_session, on_changes, asked_of, asked, incoming_of}
+use Rattle.gd_http.specs.Asking.{ask, method_of, behaviour_at, after_at, token_at, on_item, on_children, on_content, on_uploads, on_session, on_changes, asked_of, asked}
 use Rattle.gd_http.specs.Headers.{value_in, condition_of, range_from, range_to, range_in_parts, range_of, range_of_text}
 use Rattle.gd_http.specs.Hearing.{incoming_of_frame, RequestBytes}
 use Rattle.gd_http.specs.Sending.{written_body, written_head, IsSendable, HasBody}
-use Rattle.gd_http.specs.Written.{line_end, field_text, method_text, version_end, line_text, host_text, condition_text, condition_header, range_value, range_header, json_of, bytes_of, or_bytes, type_text, length_text, body_text, first_part, last_part, written_request}
-use Rattle.gd_http.proofs.Sections.{visible_value, visible_utf8, ascii, ends_trimmed, host_is_visible, length_again, IsHeader, line_of, visible_header, fields_are, values_are, Prints, prints_none, prints_one, prints_both, host_token, match_token, range_token, type_token, length_token, length_header_is}
+use Rattle.gd_http.specs.Written.{line_end, method_text, version_end, line_text, host_text, condition_text, condition_header, range_value, range_header, json_of, type_text, length_text, body_text, first_part, written_request}
+use Rattle.gd_http.proofs.Sections.{visible_value, visible_utf8, ascii, ends_trimmed, host_is_visible, length_again, IsHeader, line_of, visible_header, fields_are, values_are, Prints, prints_none, prints_one, prints_both, host_token, match_token, range_token, type_token, length_header_is}
 
 -- ---- the headers of a request
 
@@ -190,9 +186,6 @@ prints_headers base r is known =
 
 request_head : List ℕ → Request → RequestHead
 request_head base r = record { blank = []; method = method_text r; target = target_text r; minor = 1; line_end = crlf; fields = map line_of (headers_of base r); last = crlf }
-
-method_is : (text : List ℕ) → 0 < length text → Passes is_token_byte text → IsToken text
-method_is text some all = (some, all)
 
 get_token : IsToken (codes "GET")
 unfolding is_token_byte

@@ -1,5 +1,5 @@
 -- What streams say is determined by their bytes.
-use Rattle.std.proofs.Common.{◌≡◌, ℕ, ◌+◌, ◌-◌, List, [], ◌∷◌, ◌++◌, ◌⊎◌, length, Option, Some, None, Result, Ok, Err, inl, inr, refl, sym, ap, subst, ◌∙◌, rules}
+use Rattle.std.proofs.Common.{◌≡◌, ℕ, ◌-◌, List, [], ◌∷◌, ◌++◌, ◌⊎◌, length, Option, Some, None, Result, Ok, Err, inl, inr, refl, sym, ap, subst, ◌∙◌, append_assoc}
 use Rattle.gd_names.specs.declared.memory.NoMemory.{NoMemory}
 use Rattle.gd_item.specs.declared.reply.Reply.{Reply}
 use Rattle.gd_frame.specs.declared.message.Kind.TheVariants as of
@@ -77,6 +77,16 @@ module _ {F : Type 0} (s : Syntax) (p : Plain s) (Is : List ℕ → F → Type 0
       let message : m ≡ n = one g.0 m n (subst (λ x. Is x m) first.0 f.3) g.3 in
       let others = one_hearing ms ns g.1 r q (subst (λ x. Says Is x ms r) first.1 f.4) g.4 none never in
       (rw (message, others.0) refl, others.1)
+
+module _ {F : Type 0} (Is : List ℕ → F → Type 0) where
+  pub rest_grows : (ms : List F) (stream rest more : List ℕ) → Says Is stream ms rest → Says Is (stream ++ more) ms (rest ++ more)
+  rest_grows [] stream rest more x = ap (λ (t : List ℕ). t ++ more) x
+  rest_grows (m ∷ ms) stream rest more x =
+      (x.0, x.1 ++ more, ap (λ (t : List ℕ). t ++ more) x.2 ∙ append_assoc x.0 x.1 more, x.3, rest_grows ms x.1 rest more x.4)
+
+  pub rest_ends : (ms : List F) (m : F) (stream rest front tail : List ℕ) → Says Is stream ms rest → rest ≡ front ++ tail → Is front m → Says Is stream (ms ++ m ∷ []) tail
+  rest_ends [] m stream rest front tail x e is = (front, tail, x ∙ e, is, refl)
+  rest_ends (n ∷ ms) m stream rest front tail x e is = (x.0, x.1, x.2, x.3, rest_ends ms m x.1 rest front tail x.4 e is)
 
 -- ---- replies: one that means nothing is refused where it ends
 

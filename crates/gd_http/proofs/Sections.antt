@@ -1,5 +1,5 @@
 -- Written headers are fields of the grammar, and their values are read as they were written.
-use Rattle.std.proofs.Common.{◌≡◌, ℕ, ◌+◌, ◌-◌, ◌*◌, ◌^◌, ◌<◌, ◌≤◌, zero, suc, Bool, true, false, not, ◌&&◌, List, [], ◌∷◌, ◌++◌, map, length, reverse, take, drop, nat_eq, nat_le, nat_lt, All, Option, Some, None, Ok, Err, IsTrue, refl, sym, ap, ◌∙◌, subst, ⊎_elim, arith, append_assoc, append-nil, length-append}
+use Rattle.std.proofs.Common.{◌≡◌, ℕ, ◌+◌, ◌-◌, ◌*◌, ◌^◌, ◌<◌, ◌≤◌, zero, suc, Bool, true, false, ◌&&◌, List, [], ◌∷◌, ◌++◌, map, length, reverse, take, drop, nat_eq, nat_le, nat_lt, All, Some, None, Ok, refl, sym, ap, ◌∙◌, subst, ⊎_elim, arith, append_assoc, append-nil}
 use Rattle.std.specs.Prelude.{codes, slice_index}
 use Rattle.std.specs.Char.{is_ascii_digit}
 use Rattle.std.specs.Cmp.Lexicographic.{bytes_decides}
@@ -7,22 +7,22 @@ use Rattle.std.specs.Fmt.{decimal}
 use Rattle.std.specs.List.{flat_map, starts_with}
 use Rattle.std.specs.Str.{IsAscii, is_utf8, all_ascii_digits}
 use Rattle.std.specs.Str.Parse.{AllDigits, digits_value}
-use Rattle.std.proofs.lemmas.Bool.{cond-true, cond-false, cases_Bool, and_from, and_parts, eqb-true, lt-ltb, le-leb}
+use Rattle.std.proofs.lemmas.Bool.{cond-true, cond-false, cases_Bool, and_parts, eqb-true, lt-ltb, le-leb}
 use Rattle.std.proofs.lemmas.Bool.Decides.{nat_tests}
-use Rattle.std.proofs.lemmas.Fmt.{decimal_is_IsNumeral, decimal_nonempty}
+use Rattle.std.proofs.lemmas.Fmt.{decimal_is_IsNumeral}
 use Rattle.std.proofs.lemmas.Grind.{flat_map-append}
 use Rattle.std.proofs.lemmas.List.{reverse-append, length-reverse, take-append-drop}
 use Rattle.std.proofs.lemmas.List.Concat.{flat_map-cons}
-use Rattle.std.proofs.lemmas.List.Elements.{All-nil, All-cons, All-head, All-tail, All-append, All-weaker}
+use Rattle.std.proofs.lemmas.List.Elements.{All-nil, All-cons, All-head, All-tail, All-append}
 use Rattle.std.proofs.lemmas.Str.{IsUtf8-from_ascii, is_utf8-from_IsUtf8}
 use Rattle.std.proofs.lemmas.Str.Parse.{FoldsDigits, digit_from_value, numerals_by_fold, tells_digits}
-use Rattle.httparse.specs.Grammar.{Field, IsField, IsToken, AllPass, is_token_byte, is_value_byte, is_ows, skip_ows, trim_ows, crlf, print_end, print_field, print_section}
+use Rattle.httparse.specs.Grammar.{Field, IsField, IsToken, AllPass, is_token_byte, is_value_byte, is_ows, skip_ows, trim_ows, crlf, print_field}
 use Rattle.httparse.specs.Spans.{name_and_value}
 use Rattle.httparse.proofs.TrimLemmas.{AllPass-reverse, trim_ows_space}
 use Rattle.gd_names.specs.Escapes.{is_between}
 use Rattle.gd_json.specs.Bases.{is_host_byte, is_port, is_authority, is_base}
 use Rattle.gd_target.proofs.Plain.{Passes, literal, joined, weaker, is_plain, is_visible, plain_visible, decimal_plain}
-use Rattle.gd_frame.specs.Framing.{is_digit, number_after, decimal_of, if_64_bits, number_of, if_allowed}
+use Rattle.gd_frame.specs.Framing.{is_digit, number_after, decimal_of, number_of, if_allowed}
 use Rattle.gd_http.specs.Written.{line_end, field_text}
 
 -- ---- visible bytes
@@ -67,9 +67,6 @@ ends_trimmed b text last first some all =
     (rw back (skip_first (reverse last) (reverse (b ∷ text)) (some_reversed last some) (AllPass-reverse is_visible last all)))
 
 -- ---- the base of links
-
-digit_visible : (b : ℕ) → 48 ≤ b → b ≤ 57 → is_visible b ≡ true
-digit_visible b low high = grind (arith, nat_tests)
 
 host_visible : (b : ℕ) → is_host_byte b ≡ true → is_visible b ≡ true
 host_visible b host = grind (arith, nat_tests)

@@ -2,11 +2,13 @@
 use Rattle.std.specs.Prelude.{◌≡◌, ℕ, ◌-◌, List, [], ◌∷◌, ◌++◌, ◌⊎◌, length, Result, Ok, Err}
 use Rattle.gd_names.specs.declared.memory.NoMemory.{NoMemory}
 use Rattle.gd_item.specs.declared.reply.Reply.{Reply}
+use Rattle.gd_frame.specs.declared.message.Kind.{Kind}
+use Rattle.gd_frame.specs.declared.message.MessageCause.{MessageCause}
 use Rattle.gd_frame.specs.declared.message.MessageCause.TheVariants.{Meaning}
 use Rattle.gd_frame.specs.declared.step.ReadStep.{ReadStep}
 use Rattle.gd_frame.specs.declared.step.ReadStep.TheVariants.{Need, Done, Bad}
-use Rattle.gd_frame.specs.Syntax.{Syntax, replies}
-use Rattle.gd_frame.specs.Messages.{HasNoMessage}
+use Rattle.gd_frame.specs.Syntax.{Syntax, replies, syntax_of}
+use Rattle.gd_frame.specs.Messages.{HasNoMessage, HasCause}
 use Rattle.gd_frame.specs.Laws.{SameStep}
 use Rattle.gd_http.specs.HearingReplies.{Listening, ReplyBytes, MeansNothing, ReplyFed}
 
@@ -18,6 +20,18 @@ Says Is stream (m ∷ ms) rest = (front : List ℕ) × (tail : List ℕ) × (str
 -- however a stream is cut, it says this and nothing else
 abbrev pub OneHearing : {F : Type 0} → Syntax → (List ℕ → F → Type 0) → Type 0
 OneHearing {F} s Is = (ms ns : List F) (stream r q : List ℕ) → Says Is stream ms r → Says Is stream ns q → HasNoMessage s r → HasNoMessage s q → (ms ≡ ns) × (r ≡ q)
+
+-- bytes have one cause at most
+abbrev pub OneCause : Kind → Type 0
+OneCause kind = (bytes : List ℕ) (a b : MessageCause) → HasCause (syntax_of kind) a bytes → HasCause (syntax_of kind) b bytes → a ≡ b
+
+-- more bytes of a stream are more of its rest
+abbrev pub RestGrows : {F : Type 0} → (List ℕ → F → Type 0) → Type 0
+RestGrows {F} Is = (ms : List F) (stream rest more : List ℕ) → Says Is stream ms rest → Says Is (stream ++ more) ms (rest ++ more)
+
+-- a rest that begins with a message is that message more, and what follows it
+abbrev pub RestEnds : {F : Type 0} → (List ℕ → F → Type 0) → Type 0
+RestEnds {F} Is = (ms : List F) (m : F) (stream rest front tail : List ℕ) → Says Is stream ms rest → rest ≡ front ++ tail → Is front m → Says Is stream (ms ++ m ∷ []) tail
 
 -- whole replies that answer no such request begin no reply that does
 abbrev pub MeaninglessForGood : Listening → Type 0

@@ -1,6 +1,6 @@
 -- The requests and replies that are read again as they were written: their value has a written form, and their head and
 -- body are within the limits.
-use Rattle.std.specs.Prelude.{◌≡◌, ℕ, ◌<◌, ◌≤◌, ◌^◌, ⊤, true, List, ◌++◌, length, Option, Some, None}
+use Rattle.std.specs.Prelude.{◌≡◌, ℕ, ◌<◌, ◌≤◌, ◌^◌, ⊤, true, List, ◌++◌, length, Some, None}
 use Rattle.serde_json.specs.Written.{compact_text}
 use Rattle.gd_item.specs.Written.{IsWrittenId, IsWritten}
 use Rattle.gd_item.specs.declared.request.Request.{Request}

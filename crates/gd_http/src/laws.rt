@@ -1,9 +1,10 @@
 //! What holds of every stream of messages.
+ghost use Rattle.gd_frame.specs.declared.message.Kind.{Kind};
 ghost use Rattle.gd_frame.specs.Laws.{OneFrame, WholeIsDone, CutAnywhere};
 ghost use Rattle.gd_frame.specs.Syntax.{requests, replies};
 ghost use Rattle.gd_http.specs.Hearing.{RequestBytes, RequestCloses};
 ghost use Rattle.gd_http.specs.HearingReplies.{Listening, ReplyBytes};
-ghost use Rattle.gd_http.specs.Laws.{OneHearing, MeaninglessForGood, WholeReplyIsDone, WholeReplyIsBad, RepliesCutAnywhere};
+ghost use Rattle.gd_http.specs.Laws.{OneHearing, OneCause, RestGrows, RestEnds, MeaninglessForGood, WholeReplyIsDone, WholeReplyIsBad, RepliesCutAnywhere};
 
 /// Bytes ask for one thing at most, and say one thing of closing.
 pub fn one_request()
@@ -24,6 +25,19 @@ pub fn one_hearing_of_requests()
 /// The same of replies.
 pub fn one_hearing_of_replies()
     ensures { (l : Listening) → OneHearing replies (ReplyBytes l) }
+{}
+
+/// What a stream says so far grows with each piece: by its rest, or by a message that the rest begins with.
+pub fn streams_go_on()
+    ensures requests_grow { RestGrows RequestBytes }
+    ensures requests_end { RestEnds RequestBytes }
+    ensures replies_grow { (l : Listening) → RestGrows (ReplyBytes l) }
+    ensures replies_end { (l : Listening) → RestEnds (ReplyBytes l) }
+{}
+
+/// Bytes that begin no message have one cause, the first.
+pub fn one_cause()
+    ensures { (kind : Kind) → OneCause kind }
 {}
 
 /// A whole request is given as such, whatever follows it.
