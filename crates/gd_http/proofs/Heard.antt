@@ -1,5 +1,5 @@
 -- What a reader of frames gives, heard as messages.
-use Rattle.std.proofs.Common.{◌≡◌, ℕ, ◌+◌, ◌-◌, ◌^◌, min, List, Some, None, Ok, refl, length}
+use Rattle.std.proofs.Common.{◌≡◌, ℕ, Bool, ◌+◌, ◌-◌, ◌^◌, min, List, Some, None, Ok, refl, length}
 use Rattle.gd_frame.specs.declared.frame.RequestFrame.{RequestFrame}
 use Rattle.gd_frame.specs.declared.step.ReadState.TheVariants as state
 use Rattle.gd_item.specs.declared.reply.Reply.{Reply}
@@ -11,15 +11,23 @@ use Rattle.gd_frame.specs.Feeding.{Feeds}
 use Rattle.gd_frame.specs.Reading.{Reading}
 use Rattle.gd_frame.specs.Syntax.{requests, replies}
 use Rattle.gd_http.specs.declared.incoming.Incoming.{Incoming}
-use Rattle.gd_http.specs.Hearing.{incoming_of_frame, RequestBytes, Hears}
+use Rattle.gd_http.specs.Closing.{asks_to_close}
+use Rattle.gd_http.specs.Hearing.{Hearing, incoming_of_frame, RequestBytes, Hears}
 use Rattle.gd_http.specs.HearingReplies.{Listening, reply_of_frame, HearsReply}
 
-pub need_heard : (old new : Reading) (piece : List ℕ) → Feeds requests IsRequest old piece (Ok Need) new → Hears RequestBytes old piece (Ok Need) new
-need_heard old new piece fed = record { bytes = fed.bytes; state = fed.state; place = fed.place }
+-- a reader of frames, and whether the message that was given last asks to close
+abbrev pub hearing : Reading → Bool → Hearing
+hearing r closes = record { held = r.held; place = r.place; state = r.state; closes = closes }
 
-pub done_heard : (old new : Reading) (piece : List ℕ) (frame : RequestFrame) (message : Incoming) (used : ℕ) → message ≡ incoming_of_frame frame
-    → Feeds requests IsRequest old piece (Ok (Done frame used)) new → Hears RequestBytes old piece (Ok (Done message used)) new
-done_heard old new piece frame message used is fed = record { bytes = (fed.bytes.0, (frame, fed.bytes.1, is), fed.bytes.2); state = fed.state; place = fed.place }
+pub need_heard : (old new : Reading) (closes : Bool) (piece : List ℕ) → Feeds requests IsRequest old piece (Ok Need) new
+    → Hears RequestBytes (hearing old closes) piece (Ok Need) (hearing new closes)
+need_heard old new closes piece fed = record { bytes = fed.bytes; state = fed.state; place = fed.place; closes = refl }
+
+pub done_heard : (old new : Reading) (before closes : Bool) (piece : List ℕ) (frame : RequestFrame) (message : Incoming) (used : ℕ) → message ≡ incoming_of_frame frame
+    → closes ≡ asks_to_close frame → Feeds requests IsRequest old piece (Ok (Done frame used)) new
+    → Hears RequestBytes (hearing old before) piece (Ok (Done message used)) (hearing new closes)
+done_heard old new before closes piece frame message used is asks fed =
+    record { bytes = (fed.bytes.0, (frame, fed.bytes.1, is), fed.bytes.2); state = fed.state; place = fed.place; closes = (frame, fed.bytes.1, asks) }
 
 -- ---- the same of replies, where a reader counts its places itself
 

@@ -3,6 +3,7 @@
 
 mod answer;
 mod body;
+mod closing;
 mod fault;
 mod header;
 mod incoming;

@@ -1,9 +1,9 @@
 //! Requests out of a stream.
 ghost use Rattle.std.specs.Prelude.{◌≡◌, ◌≤◌, ◌==◌, Ok, IsErr, length};
-ghost use Rattle.gd_frame.specs.Reading.{fresh};
 ghost use Rattle.gd_frame.specs.declared.message.MessageCause.{MessageCause};
-ghost use Rattle.gd_http.specs.Hearing.{RequestBytes, Hears};
+ghost use Rattle.gd_http.specs.Hearing.{fresh, RequestBytes, Hears};
 
+use crate::closing::asks_to_close;
 use crate::incoming::Incoming;
 use crate::request::incoming_from;
 use gd_frame::{ReadState, ReadStep, RequestFrames};
@@ -19,15 +19,16 @@ pub struct RequestReader {
     frames: RequestFrames,
     wire: Wire,
     spent: bool,
+    /// Whether the message that was given last asks to close.
+    closes: bool,
 }
 
 impl Model for RequestReader {
-    ghost use Rattle.gd_frame.specs.Reading.{Reading};
-    ghost use Rattle.gd_http.specs.Hearing.{state_of};
+    ghost use Rattle.gd_http.specs.Hearing.{Hearing, state_of};
 
-    ghost Value = { Reading };
+    ghost Value = { Hearing };
 
-    ghost view = { λ r. record { held = r.frames.held; place = r.frames.place; state = state_of r.spent r.frames.state } };
+    ghost view = { λ r. record { held = r.frames.held; place = r.frames.place; state = state_of r.spent r.frames.state; closes = r.closes } };
 }
 
 impl RequestReader {
@@ -40,6 +41,7 @@ impl RequestReader {
             frames: RequestFrames::new(alloc),
             wire,
             spent: false,
+            closes: false,
         })
     }
 
@@ -58,6 +60,14 @@ impl RequestReader {
         self.frames.between()
     }
 
+    /// Whether the message that was given last asks that the connection be closed after its reply; no while none was
+    /// given. Takes no memory.
+    pub fn closes(&self) -> bool
+        ensures { result ≡ self.now.closes }
+    {
+        self.closes
+    }
+
     /// Takes the next bytes of the stream. What a message left of a piece is fed again.
     pub fn feed(&mut self, piece: &[u8]) -> Result<ReadStep<Incoming>, NoMemory>
         ensures open { self.old.state ≡ ReadState.Open → Hears RequestBytes self.old piece.now result self.new }
@@ -69,13 +79,19 @@ impl RequestReader {
         }
         match self.frames.feed(piece) {
             Ok(ReadStep::Need) => Ok(ReadStep::Need),
-            Ok(ReadStep::Done(frame, used)) => match incoming_from(self.alloc, frame) {
-                Ok(message) => Ok(ReadStep::Done(message, used)),
-                Err(e) => {
-                    self.spent = true;
-                    Err(e)
+            Ok(ReadStep::Done(frame, used)) => {
+                let closes = asks_to_close(&frame);
+                match incoming_from(self.alloc, frame) {
+                    Ok(message) => {
+                        self.closes = closes;
+                        Ok(ReadStep::Done(message, used))
+                    }
+                    Err(e) => {
+                        self.spent = true;
+                        Err(e)
+                    }
                 }
-            },
+            }
             Ok(ReadStep::Bad { place, cause }) => Ok(ReadStep::Bad { place, cause }),
             Err(e) => Err(e),
         }

@@ -1,0 +1,5 @@
+pub mod Pieces
+pub mod Standing
+pub mod Conversing
+pub mod Logging
+pub mod Counting

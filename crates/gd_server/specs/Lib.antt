@@ -1,0 +1,6 @@
+pub mod Counts
+pub mod Messages
+pub mod Replies
+pub mod Inboxes
+pub mod Serving
+pub mod Drives

@@ -1,0 +1,5 @@
+//! Tests of connections to a drive.
+#![tactic(auto)]
+
+#[cfg(test)]
+mod tests;
