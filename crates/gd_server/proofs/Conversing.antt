@@ -1,16 +1,14 @@
 -- A connection, message by message.
 use Rattle.std.proofs.Common.{◌≡◌, ℕ, ◌+◌, ◌-◌, ◌^◌, ◌<◌, ◌≤◌, min, true, false, List, [], ◌∷◌, ◌++◌, length, take, Option, Some, Err, inl, inr, refl, sym, ap, subst, ◌∙◌, arith, append_assoc, append-nil, length-append}
 use Rattle.std.proofs.Math.Seq.{take-append-add, take-length}
-use Rattle.gd_names.specs.Streams.{Writes}
 use Rattle.gd_names.specs.declared.sink.SinkFault.{SinkFault}
 use Rattle.gd_names.specs.declared.sink.SinkFault.TheVariants as sink
-use Rattle.gd_frame.specs.declared.message.MessageCause.{MessageCause}
 use Rattle.gd_http.specs.WrittenReplies.{written_reply}
 use Rattle.gd_item.specs.declared.reply.Reply.{Reply}
 use Rattle.gd_item.specs.declared.request.Request.{Request}
 use Rattle.gd_server.specs.Inboxes.{unread, IsReady, Heard, Silent}
 use Rattle.gd_server.specs.Messages.{most_messages, Front, IsOpen, Behind, Counts, BeginsCounted}
-use Rattle.gd_server.specs.Replies.{Says, Answers, texts, refusal_of, last_text}
+use Rattle.gd_server.specs.Replies.{Says, Answers, texts, last_text}
 use Rattle.gd_server.specs.Serving.{Gave, Sent, SentPart, SentAt, Replied, end_of, Serves}
 use Rattle.gd_server.specs.declared.inbox.Inbox.{Inbox}
 use Rattle.gd_server.specs.declared.inbox.Message.{Message}
@@ -50,17 +48,6 @@ sent_at Memory due o0 o1 o2 xs ys one two = part_more o0 o1 o2 xs ys one two
 
 pub whole_part : (o0 o1 : Option (List ℕ)) (xs : List ℕ) → Sent o0 o1 xs → SentPart o0 o1 xs
 whole_part o0 o1 xs sent = record { told = λ old at. (length xs, sent.told old at ∙ ap (λ (l : List ℕ). Some (old ++ l)) (sym (take-length xs))) }
-
--- what was sent where the sink failed
-sent_broken : (T : Type 0) (fault : SinkFault) (due : ServeEnd) (o0 o1 : Option (List ℕ)) (text : List ℕ) → Writes o0 o1 text {T = T} (Err fault) → SentAt (end_of fault) due o0 o1 text
-sent_broken T sink.Failed due o0 o1 text wrote = record { told = wrote.err }
-sent_broken T sink.Memory due o0 o1 text wrote = record { told = wrote.err }
-
-pub close_broken : (T : Type 0) (base : List ℕ) (end result : ServeEnd) (place : ℕ) (cause : MessageCause) (fault : SinkFault) (o0 o1 : Option (List ℕ)) → end ≡ BadMessage place cause → result ≡ end_of fault
-    → Writes o0 o1 (written_reply base (refusal_of cause)) {T = T} (Err fault) → SentAt result end o0 o1 (last_text base end)
-close_broken T base end result place cause fault o0 o1 is ended wrote =
-    subst (λ r. SentAt r end o0 o1 (last_text base end)) (sym ended)
-    (subst (λ (l : List ℕ). SentAt (end_of fault) end o0 o1 l) (sym (ap (last_text base) is)) (sent_broken T fault end o0 o1 (written_reply base (refusal_of cause)) wrote))
 
 -- ---- what stands behind the messages
 
@@ -246,18 +233,4 @@ module _ {A : Type 0} (Asks : A → A → Request → Reply → Type 0) (base : 
       subst (λ (l : List ℕ). Sent o0 o2 l) (sym (append-nil (texts base (so_far.replies ++ reply ∷ [])) ∙ texts_more base so_far.replies reply))
           (sent_more o0 o1 o2 (texts base so_far.replies) (written_reply base reply) so_far.sent sent),
     );
-  }
-
-  -- as many messages as a connection may have were answered
-  pub serves_spent : (l0 l1 : Option (List ℕ)) (a b : A) (o0 o1 : Option (List ℕ)) (inbox : Inbox) (count : ℕ) → SoFar Asks base l0 l1 a b o0 o1 inbox count → count ≡ most_messages
-      → Serves Asks base l0 l1 a b o0 o1 Spent
-  serves_spent l0 l1 a b o0 o1 inbox count so_far all = record {
-    read = so_far.read;
-    gave = so_far.gave;
-    messages = so_far.messages;
-    due = Spent;
-    counts = (record { rest = unread inbox; front = so_far.front }, so_far.many ∙ all);
-    replies = so_far.replies;
-    answered = so_far.answered;
-    sent = (refl, subst (λ (l : List ℕ). Sent o0 o1 l) (sym (append-nil (texts base so_far.replies))) so_far.sent);
   }

@@ -15,16 +15,6 @@ pub record Going (connections left : Option ℕ) (given_before given_now handed_
 risen_one : (n before : ℕ) → risen 1 (risen n before) ≡ risen (n + 1) before
 risen_one n before = omega arith
 
-risen_none : (before : ℕ) → before ≡ risen 0 before
-risen_none before = omega arith
-
-pub going_none : (connections : Option ℕ) (g h : ℕ) → Going connections connections g g h h
-going_none connections g h = record {
-  so_far = 0;
-  on = record { given = risen_none g; handed = risen_none h };
-  left_over = λ k is. (let zero : k ≡ 0 + k = omega arith in is ∙ ap (λ n. Some n) zero);
-}
-
 pub going_one : (connections left after : Option ℕ) (g g1 g2 h h1 h2 : ℕ) → Going connections left g g1 h h1 → g2 ≡ risen 1 g1 → h2 ≡ risen 1 h1
     → ((k : ℕ) → after ≡ Some k → left ≡ Some (k + 1)) → Going connections after g g2 h h2
 going_one connections left after g g1 g2 h h1 h2 going given handed less = record {

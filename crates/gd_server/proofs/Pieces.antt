@@ -1,5 +1,5 @@
 -- Bytes that are read piece by piece, until a message is whole.
-use Rattle.std.proofs.Common.{◌≡◌, ℕ, ◌+◌, ◌-◌, ◌^◌, ◌<◌, ◌≤◌, min, Bool, true, false, List, [], ◌++◌, ◌⊎◌, length, take, drop, Option, Some, Ok, inl, inr, refl, sym, ap, subst, ◌∙◌, arith, append_assoc, append-nil, length-append}
+use Rattle.std.proofs.Common.{◌≡◌, ℕ, ◌+◌, ◌-◌, ◌^◌, ◌<◌, ◌≤◌, min, Bool, true, false, List, [], ◌++◌, ◌⊎◌, length, take, drop, Option, Some, Ok, inr, refl, sym, ap, subst, ◌∙◌, arith, append_assoc, append-nil, length-append}
 use Rattle.std.specs.Prelude.{slice_range}
 use Rattle.std.proofs.lemmas.List.{drop-take, drop-drop, length-take, length-take-le, length-drop, take-append-drop, nil_from_length}
 use Rattle.gd_frame.specs.Syntax.{requests}
@@ -9,12 +9,12 @@ use Rattle.gd_frame.specs.declared.step.ReadStep.TheVariants.{Need, Done, Bad}
 use Rattle.gd_frame.specs.declared.message.MessageCause.{MessageCause}
 use Rattle.gd_http.specs.Hearing.{Hearing, RequestBytes, RequestCloses, Hears}
 use Rattle.gd_http.specs.declared.incoming.Incoming.{Incoming}
-use Rattle.gd_server.specs.Inboxes.{unread, pending, IsReady, Fills, FillsNot, Takes, Heard, Silent}
+use Rattle.gd_server.specs.Inboxes.{unread, pending, IsReady, Fills, Takes, Heard, Silent}
 use Rattle.gd_server.specs.Messages.{IsMessage, IsPart, IsAll}
 use Rattle.gd_server.specs.Serving.{Gave}
 use Rattle.gd_server.specs.declared.inbox.Inbox.{Inbox}
 use Rattle.gd_server.specs.declared.inbox.Message.{Message}
-use Rattle.gd_server.specs.declared.end.ServeEnd.TheVariants.{Ended, Cut, BadMessage, ReadFault, Memory}
+use Rattle.gd_server.specs.declared.end.ServeEnd.TheVariants.{BadMessage, Memory}
 
 -- ---- what a source gave
 
@@ -97,14 +97,6 @@ over l0 l1 old new count reader nothing still none told all =
       over = λ is. (unread_new, refl, all);
     }
 
-pub failed : (l0 l1 : Option (List ℕ)) (old new : Inbox) → new.reader ≡ old.reader → old.to ≤ old.from → new.to ≤ new.from → ((left : List ℕ) → l0 ≡ Some left → l1 ≡ Some left) → FillsNot l0 l1 old new
-failed l0 l1 old new reader nothing still told = record {
-  gave = record { told = λ left at. (left, told left at, refl) };
-  nothing = nothing_unread old.room old.from old.to nothing;
-  still = nothing_unread new.room new.from new.to still;
-  reader = reader;
-}
-
 -- ---- what the reader takes
 
 pub took_need : (old : Inbox) (reader : Hearing) (piece : List ℕ) → piece ≡ unread old → Hears RequestBytes old.reader piece (Ok Need) reader
@@ -150,16 +142,6 @@ pub record Waits (left left_now : Option (List ℕ)) (old now : Inbox) : Type 0 
   pub part : (now.reader.held ≡ []) ⊎ IsPart now.reader.held
   pub state : now.reader.state ≡ Open
   pub place : now.reader.place ≡ old.reader.place
-
-pub waits_none : (left : Option (List ℕ)) (inbox : Inbox) → IsReady inbox.reader → Waits left left inbox inbox
-waits_none left inbox ready = record {
-  read = [];
-  gave = gave_none left;
-  parts = append-nil (unread inbox) ∙ ap (λ (h : List ℕ). h ++ unread inbox) (sym ready.held);
-  part = inl ready.held;
-  state = ready.state;
-  place = refl;
-}
 
 filled_parts : (l0 l1 l2 : Option (List ℕ)) (old now new : Inbox) (some : Bool) (waits : Waits l0 l1 old now) (fills : Fills l1 l2 now new some) → unread old ++ (waits.read ++ fills.read) ≡ pending new
 filled_parts l0 l1 l2 old now new some waits fills =
@@ -225,44 +207,3 @@ silent_bad l0 l1 old now new at cause waits took = record {
 
 pub silent_memory : (l0 l1 : Option (List ℕ)) (old now : Inbox) → Waits l0 l1 old now → Silent l0 l1 old Memory
 silent_memory l0 l1 old now waits = record { read = waits.read; gave = waits.gave; behind = tt }
-
--- the source has no more: what is pending is all that it had
-over_all : (l0 l1 l2 : Option (List ℕ)) (old now new : Inbox) (waits : Waits l0 l1 old now) (fills : Fills l1 l2 now new false) → IsAll l0 (waits.read ++ fills.read)
-over_all l0 l1 l2 old now new waits fills =
-    let over = fills.over refl in
-    all_more l0 l1 waits.read fills.read waits.gave (λ bytes at. over.2 bytes at ∙ sym over.1)
-
-over_held : (l0 l1 l2 : Option (List ℕ)) (old now new : Inbox) (waits : Waits l0 l1 old now) (fills : Fills l1 l2 now new false) → unread old ++ (waits.read ++ fills.read) ≡ new.reader.held
-over_held l0 l1 l2 old now new waits fills = filled_parts l0 l1 l2 old now new false waits fills ∙ held_all new (fills.over refl).0
-
-pub silent_ended : (l0 l1 l2 : Option (List ℕ)) (old now new : Inbox) → Waits l0 l1 old now → Fills l1 l2 now new false → new.reader.held ≡ [] → Silent l0 l2 old Ended
-silent_ended l0 l1 l2 old now new waits fills nothing = record {
-  read = waits.read ++ fills.read;
-  gave = gave_more l0 l1 l2 waits.read fills.read waits.gave fills.gave;
-  behind = (over_held l0 l1 l2 old now new waits fills ∙ nothing, over_all l0 l1 l2 old now new waits fills);
-}
-
-is_part : (held : List ℕ) → (held ≡ []) ⊎ IsPart held → ¬ (held ≡ []) → IsPart held
-is_part held (inl none) some = absurd (some none)
-is_part held (inr part) some = part
-
-pub silent_cut : (l0 l1 l2 : Option (List ℕ)) (old now new : Inbox) → Waits l0 l1 old now → Fills l1 l2 now new false → ¬ (new.reader.held ≡ []) → Silent l0 l2 old Cut
-silent_cut l0 l1 l2 old now new waits fills some = record {
-  read = waits.read ++ fills.read;
-  gave = gave_more l0 l1 l2 waits.read fills.read waits.gave fills.gave;
-  behind = (
-    subst (λ (l : List ℕ). IsPart l) (sym (over_held l0 l1 l2 old now new waits fills))
-        (is_part new.reader.held (filled_held l0 l1 l2 old now new false waits fills) some),
-    over_all l0 l1 l2 old now new waits fills,
-  );
-}
-
-pub silent_failed : (l0 l1 l2 : Option (List ℕ)) (old now new : Inbox) → Waits l0 l1 old now → FillsNot l1 l2 now new → Silent l0 l2 old ReadFault
-silent_failed l0 l1 l2 old now new waits fails =
-    let all : unread old ++ (waits.read ++ []) ≡ now.reader.held =
-    ap (λ (l : List ℕ). unread old ++ l) (append-nil waits.read) ∙ waits.parts ∙ held_all now fails.nothing in
-    record {
-      read = waits.read ++ [];
-      gave = gave_more l0 l1 l2 waits.read [] waits.gave fails.gave;
-      behind = subst (λ (l : List ℕ). (l ≡ []) ⊎ IsPart l) (sym all) waits.part;
-    }
