@@ -1,14 +1,13 @@
 -- What stands on a drive was accepted by it, and so was what a request brings about.
-use Rattle.std.proofs.Common.{◌≡◌, ◌⊎◌, inl, inr, ℕ, ◌+◌, Bool, true, false, ◌&&◌, cond, is_none, List, [], ◌∷◌, ◌++◌, Option, Some, None, refl, ap, sym, subst, ◌∙◌, arith}
-use Rattle.std.specs.List.{All, AllByRecursion, Any, Contains}
+use Rattle.std.proofs.Common.{◌≡◌, ℕ, ◌+◌, Bool, true, false, cond, is_none, List, [], ◌∷◌, ◌++◌, Option, Some, None, refl, ap, sym, subst, ◌∙◌}
+use Rattle.std.specs.List.{AllByRecursion, Contains}
 use Rattle.std.proofs.lemmas.List.Elements.{Contains-append_left, Contains-append_right, All-contains}
 use Rattle.gd_names.proofs.Each.{all-each, each, each-append, each-so}
-use Rattle.gd_item.specs.Inventory.{Effect, MadeFolder, PutNew, PutOver, Moved, Removed, Inventory, new_drive, after, inventory, live_at}
+use Rattle.gd_item.specs.Inventory.{Effect, MadeFolder, PutNew, PutOver, Moved, Removed, new_drive, after, inventory, live_at}
 use Rattle.gd_item.specs.Records.{digest_record}
 use Rattle.gd_item.specs.Refused.{Refusal, refusal}
-use Rattle.gd_item.specs.Sessions.{State, held}
-use Rattle.gd_item.specs.Steps.{accepted_by, effects_by, effects_of, held_by, state_of}
-use Rattle.gd_item.specs.Trees.{tree_of}
+use Rattle.gd_item.specs.Sessions.{State}
+use Rattle.gd_item.specs.Steps.{accepted_by, effects_of, held_by, state_of}
 use Rattle.gd_item.specs.Versions.{accepted, accepted_after, put_by}
 use Rattle.gd_item.specs.declared.digest.Digest.{Digest}
 use Rattle.gd_item.specs.declared.live.LiveItem.{LiveItem}

@@ -1,9 +1,9 @@
 -- What is known of the feed stays so.
-use Rattle.std.proofs.Common.{◌≡◌, ◌⊎◌, inl, inr, ℕ, ◌^◌, ◌<◌, ◌≤◌, Bool, true, false, ◌||◌, not, cond, nat_eq, nat_lt, List, [], ◌∷◌, ◌++◌, max, codes, Option, Some, None, refl, ap, sym, subst, ◌∙◌, append_assoc, arith}
+use Rattle.std.proofs.Common.{◌≡◌, ℕ, ◌^◌, ◌<◌, ◌≤◌, Bool, true, false, ◌||◌, not, cond, nat_eq, nat_lt, List, [], ◌∷◌, ◌++◌, max, codes, Option, Some, None, refl, ap, sym, subst, ◌∙◌, append_assoc}
 use Rattle.std.specs.Cmp.Lexicographic.{pointwise}
 use Rattle.gd_names.proofs.Small.{neither, not-below}
 use Rattle.gd_item.specs.Answers.{answer_of}
-use Rattle.gd_item.specs.Pages.{Asked, Past, Latest, Bad, Lost, asked, asked_unless, asked_by_token}
+use Rattle.gd_item.specs.Pages.{Latest, Bad, Lost, asked_unless, asked_by_token}
 use Rattle.gd_item.specs.Sessions.{State, held}
 use Rattle.gd_item.specs.Steps.{number_of, state_of}
 use Rattle.gd_item.specs.Tokens.{token_text, token_of_text}
@@ -26,7 +26,7 @@ use Rattle.gd_laws.proofs.Tokens.{last-served, next-served}
 use Rattle.gd_laws.specs.Served.{is_page, is_served_token}
 use Rattle.od_run.specs.Good.{IfPulled, IsFeedOf, IsPulledAt, IsToken}
 use Rattle.od_run.specs.Knowing.{Feed, feed_after, feed_asked, feed_heard, feed_told, pulled_by, pulled_to, token_after}
-use Rattle.od_run.specs.Moments.{is_delta, is_own_delta}
+use Rattle.od_run.specs.Moments.{is_own_delta}
 use Rattle.od_run.proofs.Lasts.{last-hit, last-missed}
 
 -- ---- a token that is served is spelt as one

@@ -1,5 +1,5 @@
 -- What is good stays so: one lemma for each kind of event, and one induction.
-use Rattle.std.proofs.Common.{◌≡◌, ℕ, Bool, true, false, cond, List, [], ◌∷◌, ◌++◌, Option, refl, sym, subst}
+use Rattle.std.proofs.Common.{◌≡◌, ℕ, Bool, true, false, cond, List, [], ◌∷◌, ◌++◌, refl, sym, subst}
 use Rattle.gd_names.proofs.Each.{each-append}
 use Rattle.gd_item.specs.Records.{digest_record}
 use Rattle.gd_item.specs.Steps.{accepted_by}

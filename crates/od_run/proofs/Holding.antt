@@ -1,9 +1,8 @@
 -- What the client knows of held files stays so.
-use Rattle.std.proofs.Common.{◌≡◌, ℕ, ◌+◌, ◌-◌, ◌^◌, Bool, true, false, not, cond, nat_eq, is_none, filter, List, [], ◌∷◌, ◌++◌, length, Option, Some, None, refl, ap, sym, subst, ◌∙◌}
-use Rattle.std.specs.List.{AllByRecursion}
+use Rattle.std.proofs.Common.{◌≡◌, ℕ, ◌+◌, ◌-◌, ◌^◌, Bool, true, false, not, cond, nat_eq, is_none, List, [], ◌∷◌, ◌++◌, length, Option, Some, None, refl, ap, sym, subst, ◌∙◌}
 use Rattle.std.proofs.lemmas.Bool.{eqb-true, eq-eqb}
 use Rattle.gd_names.proofs.Each.{each-append, each-so}
-use Rattle.od_tree.specs.Local.{Local, file_at, greatest_number, held_at, has_place, local_of, without_held, without_spot, set_aside, put_back, op_refusal, after_placed_edit, after_edit, after_done_op, after_op, after_step}
+use Rattle.od_tree.specs.Local.{Local, file_at, greatest_number, held_at, has_place, local_of, without_held, without_spot, set_aside, put_back, op_refusal, after_placed_edit, after_edit, after_done_op, after_op}
 use Rattle.od_tree.specs.declared.edit.UserEdit.{UserEdit}
 use Rattle.od_tree.specs.declared.edit.UserEdit.TheVariants.{Write, Remove, Move, MakeFolder}
 use Rattle.od_tree.specs.declared.fault.TreeFault.{TreeFault}

@@ -1,10 +1,9 @@
 -- An image that may be committed is sound.
-use Rattle.std.proofs.Common.{◌≡◌, ◌⊎◌, inl, inr, ⊎_elim, ℕ, ◌≤◌, List, [], ◌∷◌, ◌++◌, Option, Some, None, refl, ap, sym, subst, ◌∙◌, arith}
-use Rattle.std.specs.List.{All, AllByRecursion, Contains}
+use Rattle.std.proofs.Common.{◌≡◌, ⊎_elim, ℕ, List, [], ◌∷◌, ◌++◌, Option, Some, None, refl, sym, subst, arith}
 use Rattle.std.proofs.lemmas.List.Elements.{All-contains}
 use Rattle.gd_names.proofs.Each.{all-each, each-so}
 use Rattle.gd_item.specs.Records.{records_of}
-use Rattle.gd_item.specs.Steps.{accepted_by, held_at, held_by, number_of, state_of}
+use Rattle.gd_item.specs.Steps.{accepted_by, held_at, held_by, state_of}
 use Rattle.gd_item.specs.Tokens.{token_of_text}
 use Rattle.gd_item.specs.Views.{AreItemsOf, IsPulled, ItemsAre, TokenIs}
 use Rattle.gd_item.specs.declared.item.Item.{Item}

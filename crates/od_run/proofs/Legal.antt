@@ -1,5 +1,5 @@
 -- Legal events one after another, and the steps of others.
-use Rattle.std.proofs.Common.{◌≡◌, List, [], ◌∷◌, ◌++◌, refl, sym, subst, ◌∙◌}
+use Rattle.std.proofs.Common.{◌≡◌, List, [], ◌∷◌, ◌++◌, refl, sym, subst}
 use Rattle.std.specs.List.{AllByRecursion}
 use Rattle.gd_item.specs.declared.step.Step.TheVariants as step
 use Rattle.gd_item.specs.declared.step.Who.TheVariants.{Own, Other}

@@ -1,9 +1,9 @@
 -- A legal history loses no edit.
 use Rattle.std.proofs.Common.{◌≡◌, ◌⊎◌, inl, inr, ⊎_elim, ℕ, zero, suc, ◌+◌, ◌<◌, Bool, true, false, ◌&&◌, ◌||◌, cond, nat_eq, is_none, map, List, [], ◌∷◌, ◌++◌, length, get_or, Option, Some, None, refl, ap, sym, subst, ◌∙◌, arith}
 use Rattle.std.specs.Cmp.Lexicographic.{pointwise}
-use Rattle.std.specs.List.{AllByRecursion, Contains, flat_map, list_any, list_all}
+use Rattle.std.specs.List.{Contains, flat_map, list_any, list_all}
 use Rattle.std.proofs.lemmas.Bool.{and_parts, eqb-true, or_cases, or_left, or_right}
-use Rattle.std.proofs.lemmas.List.{append-nil, append_assoc, get_or-map, length-map}
+use Rattle.std.proofs.lemmas.List.{append-nil, get_or-map, length-map}
 use Rattle.std.proofs.lemmas.List.Elements.{Contains-append_left, Contains-append_right}
 use Rattle.gd_item.specs.Records.{digest_record}
 use Rattle.gd_item.specs.Steps.{accepted_by}
@@ -11,23 +11,23 @@ use Rattle.gd_item.specs.declared.digest.Digest.{Digest}
 use Rattle.gd_item.specs.declared.live.Version.{Version}
 use Rattle.gd_item.specs.declared.step.Step.{Step}
 use Rattle.gd_item.proofs.LogsGrow.{accepted-log}
-use Rattle.od_keeper.specs.Sound.{IsAccepted, IsSound}
+use Rattle.od_keeper.specs.Sound.{IsAccepted}
 use Rattle.od_keeper.specs.declared.image.Agreed.TheVariants.{File}
 use Rattle.od_tree.specs.Collisions.{NoCollision, contents, placed_by}
-use Rattle.od_tree.specs.Local.{Local, empty_folder, held_at, local_of, op_refusal, after_op, after_step, after_steps, without_held}
+use Rattle.od_tree.specs.Local.{Local, empty_folder, held_at, local_of, op_refusal, after_op, after_step, without_held}
 use Rattle.od_tree.specs.Loss.{is_accepted, is_origin, is_replaced, is_replaced_after, is_somewhere, lost_by, no_loss, stems_from, write_by, writes, writes_after}
 use Rattle.od_tree.specs.Taking.{is_discard}
 use Rattle.od_tree.specs.declared.fault.TreeFault.{TreeFault}
 use Rattle.od_tree.specs.declared.local.HeldFile.{HeldFile}
 use Rattle.od_tree.specs.declared.local.Spot.{Spot}
 use Rattle.od_tree.specs.declared.step.LocalStep.{LocalStep}
-use Rattle.od_tree.specs.declared.step.LocalStep.TheVariants.{User, Op}
+use Rattle.od_tree.specs.declared.step.LocalStep.TheVariants.{Op}
 use Rattle.od_tree.specs.declared.step.TreeOp.{TreeOp}
 use Rattle.od_tree.specs.declared.step.TreeOp.TheVariants as op
 use Rattle.od_tree.proofs.Contents.{apart-before}
 use Rattle.od_tree.proofs.Lossless.{no_more_lost}
 use Rattle.od_tree.proofs.Paths.{text-self}
-use Rattle.od_tree.proofs.Staying.{at_path, in_held, in_holding, in_spots, somewhere}
+use Rattle.od_tree.proofs.Staying.{at_path, in_held, in_holding, somewhere}
 use Rattle.od_tree.proofs.Steps.{local-snoc}
 use Rattle.od_run.specs.Good.{IsHeldAs, LosesNothing}
 use Rattle.od_run.proofs.Origins.{FileIn, HeldIn, StemsIn, held-in, stems, written-once}

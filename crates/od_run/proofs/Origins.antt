@@ -1,9 +1,9 @@
 -- Each file has the bytes of the write from which it stems.
-use Rattle.std.proofs.Common.{◌≡◌, ◌⊎◌, inl, inr, ⊎_elim, ℕ, ◌+◌, ◌-◌, ◌^◌, ◌<◌, ◌≤◌, Bool, true, false, not, cond, nat_eq, is_none, map, filter, List, [], ◌∷◌, ◌++◌, length, Option, Some, None, refl, ap, sym, subst, ◌∙◌, arith}
+use Rattle.std.proofs.Common.{◌≡◌, ⊎_elim, ℕ, ◌+◌, ◌-◌, ◌^◌, ◌≤◌, Bool, true, false, not, cond, nat_eq, is_none, filter, List, [], ◌∷◌, ◌++◌, Option, Some, None, ap, sym, ◌∙◌, arith}
 use Rattle.std.proofs.lemmas.List.Elements.{Contains-append_cases, Contains-push_cases, All-contains_itself}
 use Rattle.std.specs.List.{AllByRecursion, Contains}
 use Rattle.gd_names.proofs.Each.{each, each-append, each-first, each-second, each-so}
-use Rattle.od_tree.specs.Local.{Local, empty_folder, is_path, is_from, spot_at, file_in, file_at, held_at, greatest_number, without_spot, moved_from, without_held, has_place, after_placed_edit, set_aside, put_back, op_refusal, after_done_op, after_op, after_step, after_steps, local_of}
+use Rattle.od_tree.specs.Local.{Local, empty_folder, is_path, is_from, spot_at, file_in, file_at, held_at, greatest_number, without_spot, moved_from, without_held, has_place, after_placed_edit, set_aside, put_back, op_refusal, after_done_op, after_step, after_steps, local_of}
 use Rattle.od_tree.specs.Loss.{write_by, writes_after, writes}
 use Rattle.od_tree.specs.declared.edit.UserEdit.TheVariants.{Write, Remove, Move, MakeFolder}
 use Rattle.od_tree.specs.declared.fault.TreeFault.{TreeFault}

@@ -1,12 +1,11 @@
 -- What was scanned last is what the folder has, where no one changed it since.
-use Rattle.std.proofs.Common.{◌≡◌, Bool, true, false, ◌||◌, cond, is_none, List, [], ◌∷◌, ◌++◌, length, Option, Some, None, refl, ap, sym, subst, ◌∙◌, append_assoc}
+use Rattle.std.proofs.Common.{◌≡◌, false, cond, is_none, List, [], ◌∷◌, ◌++◌, Option, Some, None, refl, ap, sym, subst, ◌∙◌, append_assoc}
 use Rattle.std.proofs.lemmas.List.{append-nil}
-use Rattle.std.specs.List.{AllByRecursion, list_any}
+use Rattle.std.specs.List.{AllByRecursion}
 use Rattle.gd_names.proofs.Each.{each-append}
-use Rattle.gd_item.specs.declared.step.Step.{Step}
 use Rattle.od_synclist.specs.Kept.{kept}
 use Rattle.od_synclist.specs.declared.rule.Rule.{Rule}
-use Rattle.od_tree.specs.Local.{Local, after_done_op, after_op, after_step, local_of, op_refusal, tree_of_spots}
+use Rattle.od_tree.specs.Local.{Local, after_done_op, after_op, local_of, op_refusal, tree_of_spots}
 use Rattle.od_tree.specs.Undisturbed.{IsOp, NoUser}
 use Rattle.od_tree.specs.declared.edit.UserEdit.{UserEdit}
 use Rattle.od_tree.specs.declared.fault.TreeFault.{TreeFault}
@@ -18,7 +17,7 @@ use Rattle.od_tree.specs.declared.step.TreeOp.TheVariants as op
 use Rattle.od_tree.proofs.Steps.{local-snoc}
 use Rattle.od_run.specs.Good.{IfPulled, IfScanned, IsFeedOf, IsLook, IsPulledAt, IsScannedAt}
 use Rattle.od_run.specs.Knowing.{Here, Known, here_after}
-use Rattle.od_run.specs.Moments.{is_root_listing, last_asked, since_listed}
+use Rattle.od_run.specs.Moments.{is_root_listing, since_listed}
 use Rattle.od_run.specs.Settling.{AreEqual, IsSettled, kept_here, kept_there}
 use Rattle.od_run.specs.Worlds.{World}
 use Rattle.od_run.proofs.Lasts.{after-none, any-missed}

@@ -1,5 +1,5 @@
 -- Each agreement that is committed was so.
-use Rattle.std.proofs.Common.{◌≡◌, ◌⊎◌, inl, inr, ⊎_elim, ℕ, ◌+◌, Bool, true, false, cond, is_none, List, [], ◌∷◌, ◌++◌, length, Option, Some, None, refl, ap, sym, subst, ◌∙◌, append_assoc, arith}
+use Rattle.std.proofs.Common.{◌≡◌, inl, inr, ⊎_elim, ℕ, ◌+◌, Bool, true, false, cond, is_none, List, [], ◌∷◌, ◌++◌, length, Option, Some, None, refl, ap, sym, subst, ◌∙◌, append_assoc, arith}
 use Rattle.std.specs.List.{AllByRecursion, Contains}
 use Rattle.std.proofs.lemmas.List.{append-nil, length_push}
 use Rattle.std.proofs.lemmas.List.Elements.{Contains-append_cases, Contains-append_left, Contains-append_right, Contains-push_cases}
@@ -8,11 +8,10 @@ use Rattle.gd_item.specs.Inventory.{Effect, MadeFolder, PutNew, PutOver, Moved, 
 use Rattle.gd_item.specs.Nodes.{below}
 use Rattle.gd_item.specs.Records.{digest_record}
 use Rattle.gd_item.specs.Refused.{Refusal, refusal}
-use Rattle.gd_item.specs.Sessions.{held}
 use Rattle.gd_item.specs.Steps.{effects_by, effects_of, held_by, state_of}
 use Rattle.gd_item.specs.declared.digest.Digest.{Digest}
 use Rattle.gd_item.specs.declared.request.Request.{Request}
-use Rattle.gd_item.specs.declared.request.Request.TheVariants.{Put, OpenSession, Delta}
+use Rattle.gd_item.specs.declared.request.Request.TheVariants.{OpenSession, Delta}
 use Rattle.gd_item.specs.declared.step.Step.{Step}
 use Rattle.gd_item.specs.declared.step.Step.TheVariants as step
 use Rattle.gd_item.specs.declared.step.Who.TheVariants.{Own, Other}
@@ -30,9 +29,9 @@ use Rattle.od_tree.specs.declared.step.LocalStep.TheVariants.{User, Op}
 use Rattle.od_tree.specs.declared.step.TreeOp.{TreeOp}
 use Rattle.od_tree.specs.declared.step.TreeOp.TheVariants as op
 use Rattle.od_tree.proofs.Steps.{local-snoc}
-use Rattle.od_run.specs.Acting.{AsPulled, HasFlight, HasFlown, HasRow, IsAt, IsOnItsWay, LegalFrom, May, MayAgree, MayKeep, MayKeepRow, WasThere}
-use Rattle.od_run.specs.Good.{AreSound, Good, IfPulled, IsFeedOf, IsPulledAt}
-use Rattle.od_run.specs.Knowing.{Here, Known, Path, There, after_effects, after_listed, agreed_bytes, agreed_item, at_known_path, begins, brought_by, child_path, here_after, known_path, learn, stands, there_after, there_asked, there_brought, there_heard}
+use Rattle.od_run.specs.Acting.{AsPulled, HasFlight, HasFlown, HasRow, IsAt, IsOnItsWay, LegalFrom, May, MayAgree, MayKeep, MayKeepRow}
+use Rattle.od_run.specs.Good.{AreSound, Good, IfPulled, IsPulledAt}
+use Rattle.od_run.specs.Knowing.{Here, Known, Path, There, after_effects, agreed_bytes, agreed_item, at_known_path, begins, brought_by, here_after, known_path, learn, stands, there_after, there_asked, there_brought, there_heard}
 use Rattle.od_run.specs.Truths.{AgreedOnce, BroughtOnce, HadOnce, IsNamed, ReadOnce, StoodOnce, WasSo, WereSo, made_of}
 use Rattle.od_run.specs.Worlds.{World, Event, Asked, Worked, Kept, happens, now}
 use Rattle.od_run.proofs.Accepting.{asked-same}

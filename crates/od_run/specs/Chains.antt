@@ -1,5 +1,5 @@
 -- With which tokens the drive is asked for changes.
-use Rattle.std.specs.Prelude.{◌≡◌, ◌⊎◌, ℕ, ◌≤◌, true, false, List, [], ◌∷◌, ◌++◌, Option, Some, None}
+use Rattle.std.specs.Prelude.{◌≡◌, ◌⊎◌, ℕ, ◌≤◌, true, false, List, [], ◌∷◌, ◌++◌, Option, None}
 use Rattle.std.specs.List.{Contains}
 use Rattle.gd_item.specs.Answers.{answer_of}
 use Rattle.gd_item.specs.declared.request.Request.TheVariants.{Delta}

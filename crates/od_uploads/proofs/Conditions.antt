@@ -1,27 +1,27 @@
 -- What this client puts on the drive has its condition.
-use Rattle.std.proofs.Common.{◌≡◌, ◌⊎◌, inl, inr, ⊎_elim, ℕ, zero, suc, ◌+◌, ◌<◌, ◌≤◌, Bool, true, false, ◌&&◌, ◌||◌, not, cond, nat_eq, nat_lt, is_none, map, List, [], ◌∷◌, ◌++◌, length, Option, Some, None, refl, ap, sym, subst, ◌∙◌, arith}
+use Rattle.std.proofs.Common.{◌≡◌, ℕ, ◌+◌, ◌≤◌, Bool, true, false, ◌||◌, not, cond, nat_eq, nat_lt, is_none, map, List, [], ◌∷◌, ◌++◌, length, Option, Some, None, refl, ap, sym, subst, ◌∙◌, arith}
 use Rattle.std.specs.Cmp.Lexicographic.{pointwise, bytes_decides}
 use Rattle.std.specs.List.{AllByRecursion}
-use Rattle.std.proofs.lemmas.Bool.{and_parts, eqb-true, ne_eqb}
-use Rattle.std.proofs.lemmas.List.{append-nil, length-append, length_push}
+use Rattle.std.proofs.lemmas.Bool.{and_parts, eqb-true}
+use Rattle.std.proofs.lemmas.List.{length-append, length_push}
 use Rattle.gd_names.proofs.Each.{each}
 use Rattle.gd_names.proofs.Small.{clear, mapped-none, none-from, none_found, un-not}
 use Rattle.gd_names.specs.Caseless.{equal_caseless}
-use Rattle.gd_names.specs.Settling.{is_taken, settled_at, sibling_named}
+use Rattle.gd_names.specs.Settling.{settled_at, sibling_named}
 use Rattle.gd_names.specs.declared.conflict.Conflict.{Conflict}
 use Rattle.gd_names.specs.declared.conflict.Conflict.TheVariants.{Fail}
 use Rattle.gd_names.specs.declared.conflict.Settle.{Settle}
 use Rattle.gd_names.specs.declared.conflict.Settle.TheVariants as settle
 use Rattle.gd_names.specs.declared.conflict.Sibling.{Sibling}
 use Rattle.gd_item.specs.Faults.{code_of, status_of}
-use Rattle.gd_item.specs.Inventory.{Effect, MadeFolder, PutNew, PutOver, Moved, Removed, Inventory, live_at}
+use Rattle.gd_item.specs.Inventory.{Effect, Removed, Inventory, live_at}
 use Rattle.gd_item.specs.Moves.{patch_effect, remove_effects, removal_order}
 use Rattle.gd_item.specs.Nodes.{is_folder, path_of}
 use Rattle.gd_item.specs.Records.{content_tag}
 use Rattle.gd_item.specs.Refusals.{file_effect, folder_effect, is_met, is_over_quota, is_refuse, is_there, is_too_long, make_folder_effect, put_effect, put_over_refusal, put_refusal, put_under_refusal, settled_in, siblings_in}
 use Rattle.gd_item.specs.Refused.{Refusal, at_target, by_session, by_store, commit_refusal, finish_refusal, id_number, last_refusal, or_else, refusal, refuse}
 use Rattle.gd_item.specs.Sessions.{State, Session, completes_file, finish_fault, fragment_fault, held, held_bytes, is_completed, session_at, with_fragment, without_session}
-use Rattle.gd_item.specs.Steps.{after_event, after_request, after_step, commit_effect, effects_at, effects_by, effects_of, finish_effects, fragment_effects, held_by, is_accepted, opened, openers_of, sessions_of, state_of}
+use Rattle.gd_item.specs.Steps.{after_request, after_step, commit_effect, effects_at, effects_of, finish_effects, fragment_effects, held_by, is_accepted, opened, openers_of, sessions_of, state_of}
 use Rattle.gd_item.specs.Tags.{etag_text, is_matching, tag_of}
 use Rattle.gd_item.specs.Targets.{place_of, target_of}
 use Rattle.gd_item.specs.Trees.{nodes_of}
@@ -36,8 +36,7 @@ use Rattle.gd_item.specs.declared.live.Place.TheVariants as place
 use Rattle.gd_item.specs.declared.request.Address.{Address}
 use Rattle.gd_item.specs.declared.request.Address.TheVariants.{Id, ByPath, Child}
 use Rattle.gd_item.specs.declared.request.Request.{Request}
-use Rattle.gd_item.specs.declared.request.Request.TheVariants.{Get, Children, MakeFolder, Put, Patch, Delete, Content, Download, OpenSession, Fragment, SessionStatus, CancelSession, Finish, Delta}
-use Rattle.gd_item.specs.declared.step.DriveEvent.{DriveEvent}
+use Rattle.gd_item.specs.declared.request.Request.TheVariants.{MakeFolder, Put, Patch, Delete, OpenSession, Fragment, CancelSession, Finish, Delta}
 use Rattle.gd_item.specs.declared.step.DriveEvent.TheVariants.{Expire, Restore, EndSession, Plain}
 use Rattle.gd_item.specs.declared.step.Step.{Step}
 use Rattle.gd_item.specs.declared.step.Step.TheVariants as step
@@ -47,15 +46,15 @@ use Rattle.gd_laws.proofs.Allowed.{may-put}
 use Rattle.gd_laws.proofs.Every.{every-drive}
 use Rattle.gd_laws.specs.EveryDrive.{IsOpen}
 use Rattle.od_tree.specs.declared.step.LocalStep.TheVariants.{User, Op}
-use Rattle.od_run.specs.Acting.{AsPulled, HasTag, IsSentTo, LegalFrom, May, MayRequest}
-use Rattle.od_uploads.specs.Conditions.{HasCondition, HasSameTag, OwnHasCondition, UploadsUnderCondition}
+use Rattle.od_run.specs.Acting.{AsPulled, HasTag, IsSentTo, LegalFrom, MayRequest}
+use Rattle.od_uploads.specs.Conditions.{HasCondition, HasSameTag, UploadsUnderCondition}
 use Rattle.od_run.specs.Good.{AreSound, Good, IfPulled, IsPulledAt}
-use Rattle.od_run.specs.Knowing.{Known, Sending, There, after_effects, begins, learn, reading_for, sending_of, sent_as, there_after, there_asked, there_brought, there_heard}
+use Rattle.od_run.specs.Knowing.{Known, Sending, There, begins, learn, reading_for, sending_of, sent_as, there_after, there_asked, there_brought, there_heard}
 use Rattle.od_run.specs.Moments.{is_own_delta, last_asked}
-use Rattle.od_run.specs.Worlds.{World, Event, Asked, Worked, Kept, happens, now, steps_in}
+use Rattle.od_run.specs.Worlds.{World, Event, Asked, Worked, Kept, happens, steps_in}
 use Rattle.od_run.proofs.Goods.{good-after, good-beginning}
 use Rattle.od_run.proofs.Lasts.{last-missed}
-use Rattle.od_uploads.proofs.Parts.{at-gone, at-last, at-other, at-same, at-without, grown, grown_at}
+use Rattle.od_uploads.proofs.Parts.{at-gone, at-last, at-other, at-same, at-without, grown_at}
 use Rattle.od_uploads.proofs.Uploading.{effects-sending, new-at, none-at, number-apart, openers-grow, state-next}
 
 -- ---- a put over an item

@@ -1,10 +1,10 @@
 -- Between two requests for changes the puts of this client fall once on a place.
-use Rattle.std.proofs.Common.{◌≡◌, ◌⊎◌, inl, inr, ⊎_elim, ℕ, ◌+◌, ◌≤◌, Bool, true, false, not, cond, nat_eq, is_none, map, List, [], ◌∷◌, ◌++◌, length, Option, Some, None, refl, ap, sym, subst, ◌∙◌, arith}
+use Rattle.std.proofs.Common.{◌≡◌, ◌⊎◌, inl, inr, ⊎_elim, ℕ, ◌+◌, ◌≤◌, Bool, true, false, cond, nat_eq, is_none, map, List, [], ◌∷◌, ◌++◌, length, Option, Some, None, refl, ap, sym, subst, ◌∙◌, arith}
 use Rattle.std.specs.List.{AllByRecursion, Contains, flat_map}
 use Rattle.std.proofs.lemmas.Bool.{eqb-true, eq-eqb}
 use Rattle.std.proofs.lemmas.List.{length-append, length_push}
 use Rattle.std.proofs.lemmas.List.Elements.{Contains-append_cases, Contains-append_left, Contains-append_right, Contains-push_cases}
-use Rattle.gd_names.proofs.Each.{each, each-append, each-so}
+use Rattle.gd_names.proofs.Each.{each, each-so}
 use Rattle.gd_names.specs.Settling.{settled_at, sibling_named}
 use Rattle.gd_names.specs.declared.conflict.Conflict.{Conflict}
 use Rattle.gd_names.specs.declared.conflict.Conflict.TheVariants.{Fail}
@@ -12,7 +12,7 @@ use Rattle.gd_names.specs.declared.conflict.Settle.{Settle}
 use Rattle.gd_names.specs.declared.conflict.Settle.TheVariants as settle
 use Rattle.gd_names.specs.declared.conflict.Sibling.{Sibling}
 use Rattle.gd_item.specs.Ids.{item_id}
-use Rattle.gd_item.specs.Inventory.{Effect, MadeFolder, PutNew, PutOver, Moved, Removed, Inventory}
+use Rattle.gd_item.specs.Inventory.{Effect, Removed, Inventory}
 use Rattle.gd_item.specs.Moves.{patch_effect, remove_effects, removal_order}
 use Rattle.gd_item.specs.Refusals.{file_effect, folder_effect, make_folder_effect, put_effect, settled_in, siblings_in}
 use Rattle.gd_item.specs.Refused.{Refusal, id_number, refusal}
@@ -25,7 +25,7 @@ use Rattle.gd_item.specs.declared.live.Place.TheVariants.{Over, Under}
 use Rattle.gd_item.specs.declared.request.Address.{Address}
 use Rattle.gd_item.specs.declared.request.Address.TheVariants.{Id, ByPath, Child}
 use Rattle.gd_item.specs.declared.request.Request.{Request}
-use Rattle.gd_item.specs.declared.request.Request.TheVariants.{Get, Children, MakeFolder, Put, Patch, Delete, Content, Download, OpenSession, Fragment, SessionStatus, CancelSession, Finish, Delta}
+use Rattle.gd_item.specs.declared.request.Request.TheVariants.{MakeFolder, Put, Patch, Delete, OpenSession, Fragment, CancelSession, Finish, Delta}
 use Rattle.gd_item.specs.declared.step.DriveEvent.TheVariants.{Expire, Restore, EndSession, Plain}
 use Rattle.gd_item.specs.declared.step.Step.{Step}
 use Rattle.gd_item.specs.declared.step.Step.TheVariants as step
@@ -39,7 +39,7 @@ use Rattle.od_uploads.specs.Falling.{FallOnce, FallsApart, puts_at, puts_since}
 use Rattle.od_run.specs.Knowing.{Known, Sending, There, after_effects, begins, learn, reading_for, sending_of, sent_as, there_after, there_asked, there_brought, there_heard}
 use Rattle.od_run.specs.Worlds.{World, Event, Asked, Worked, Kept, happens, steps_in}
 use Rattle.od_run.proofs.Among.{among-head, of-each}
-use Rattle.od_uploads.proofs.Parts.{at-gone, at-last, at-other, at-same, at-without, grown, grown_at}
+use Rattle.od_uploads.proofs.Parts.{at-gone, at-last, at-other, at-same, at-without, grown_at}
 use Rattle.od_uploads.proofs.Uploading.{new-at, none-at, number-apart, openers-grow, state-next}
 
 -- ---- the place that an address names

@@ -1,10 +1,9 @@
 -- Between two requests for changes this client sends a file once to a place.
-use Rattle.std.proofs.Common.{◌≡◌, ℕ, Bool, true, false, cond, is_none, List, [], ◌∷◌, ◌++◌, Option, refl, sym, subst, ◌∙◌}
+use Rattle.std.proofs.Common.{◌≡◌, Bool, true, false, cond, is_none, List, [], ◌∷◌, refl, subst}
 use Rattle.gd_item.specs.Inventory.{Effect, Inventory}
 use Rattle.gd_item.specs.Refused.{refusal}
 use Rattle.gd_item.specs.Sessions.{State, held}
 use Rattle.gd_item.specs.Steps.{effects_of, state_of}
-use Rattle.gd_item.specs.declared.request.Address.{Address}
 use Rattle.gd_item.specs.declared.request.Request.{Request}
 use Rattle.gd_item.specs.declared.request.Request.TheVariants.{Put, OpenSession, Delta}
 use Rattle.gd_item.specs.declared.step.Step.{Step}

@@ -1,10 +1,9 @@
 -- The bytes that a session of this client holds are a first part of its reading.
-use Rattle.std.proofs.Common.{◌≡◌, ◌⊎◌, inl, inr, ⊎_elim, ℕ, zero, suc, ◌+◌, ◌-◌, ◌%◌, ◌<◌, ◌≤◌, Bool, true, false, ◌&&◌, ◌||◌, not, cond, nat_eq, nat_le, nat_lt, is_none, List, [], ◌∷◌, ◌++◌, length, take, drop, Option, Some, None, refl, ap, sym, subst, ◌∙◌, arith}
-use Rattle.std.specs.List.{find, filter}
-use Rattle.std.proofs.lemmas.Bool.{and_parts, eqb-true, eq-eqb, ne_eqb}
+use Rattle.std.proofs.Common.{◌≡◌, ℕ, zero, suc, ◌+◌, ◌-◌, ◌%◌, ◌≤◌, Bool, true, false, ◌&&◌, ◌||◌, not, cond, nat_eq, nat_le, nat_lt, is_none, List, [], ◌∷◌, ◌++◌, length, take, drop, Option, Some, None, refl, ap, sym, ◌∙◌, arith}
+use Rattle.std.proofs.lemmas.Bool.{eqb-true, eq-eqb}
 use Rattle.std.proofs.lemmas.List.{length-append, take_all}
-use Rattle.gd_names.proofs.Small.{clear, mapped-none, neither, none-from, un-not}
-use Rattle.gd_item.specs.Faults.{code_of, session_code_of, session_status_of, status_of}
+use Rattle.gd_names.proofs.Small.{clear, mapped-none, neither, un-not}
+use Rattle.gd_item.specs.Faults.{session_code_of, session_status_of}
 use Rattle.gd_item.specs.Refused.{Refusal, by_session, or_else, refuse}
 use Rattle.gd_item.specs.Sessions.{Session, finish_fault, held_bytes, is_filled, is_last, is_other_total, session_at, session_fragment_fault, with_fragment, without_session}
 use Rattle.gd_item.specs.declared.fault.SessionFault.{SessionFault}

@@ -1,6 +1,6 @@
 -- What this client puts on the drive was read.
-use Rattle.std.proofs.Common.{◌≡◌, ◌⊎◌, inl, inr, ⊎_elim, ℕ, zero, suc, ◌+◌, ◌-◌, ◌<◌, ◌≤◌, Bool, true, false, ◌&&◌, not, cond, nat_eq, is_none, map, List, [], ◌∷◌, ◌++◌, length, slice_get, Option, Some, None, refl, ap, sym, subst, ◌∙◌, arith}
-use Rattle.std.specs.List.{All, AllByRecursion, Contains}
+use Rattle.std.proofs.Common.{◌≡◌, ℕ, zero, suc, ◌+◌, ◌-◌, ◌≤◌, Bool, true, false, not, cond, nat_eq, is_none, map, List, [], ◌∷◌, ◌++◌, length, slice_get, Option, Some, None, refl, ap, sym, subst, ◌∙◌, arith}
+use Rattle.std.specs.List.{AllByRecursion, Contains}
 use Rattle.std.proofs.lemmas.Bool.{and_parts, eqb-true, eq-eqb, ne_eqb}
 use Rattle.std.proofs.lemmas.List.{append-nil, length-append, length_push}
 use Rattle.gd_names.proofs.Each.{each}
@@ -11,7 +11,7 @@ use Rattle.gd_item.specs.Inventory.{Effect, MadeFolder, PutNew, PutOver, Moved, 
 use Rattle.gd_item.specs.Moves.{patch_effect, remove_effects, removal_order}
 use Rattle.gd_item.specs.Refusals.{file_effect, folder_effect, make_folder_effect, put_effect, settled_in}
 use Rattle.gd_item.specs.Refused.{Refusal, by_session, by_store, finish_refusal, id_number, last_refusal, or_else, refusal}
-use Rattle.gd_item.specs.Sessions.{State, Session, completes_file, finish_fault, fragment_fault, held, is_completed, is_last, session_at, session_fragment_fault, with_fragment, without_session}
+use Rattle.gd_item.specs.Sessions.{State, Session, completes_file, finish_fault, fragment_fault, held, is_completed, is_last, session_at, with_fragment, without_session}
 use Rattle.gd_item.specs.Steps.{after_event, after_request, after_step, commit_effect, effects_at, effects_by, effects_of, finish_effects, fragment_effects, is_accepted, is_fair_after, is_fair_step, is_own, names_own_session, opened, opener_of, openers_of, sessions_of, state_of}
 use Rattle.gd_item.specs.Targets.{place_of, target_of}
 use Rattle.gd_item.specs.declared.condition.Condition.{Condition}
@@ -19,7 +19,7 @@ use Rattle.gd_item.specs.declared.live.Place.{Place}
 use Rattle.gd_item.specs.declared.live.Place.TheVariants as place
 use Rattle.gd_item.specs.declared.request.Address.{Address}
 use Rattle.gd_item.specs.declared.request.Request.{Request}
-use Rattle.gd_item.specs.declared.request.Request.TheVariants.{Get, Children, MakeFolder, Put, Patch, Delete, Content, Download, OpenSession, Fragment, SessionStatus, CancelSession, Finish, Delta}
+use Rattle.gd_item.specs.declared.request.Request.TheVariants.{MakeFolder, Put, Patch, Delete, OpenSession, Fragment, CancelSession, Finish, Delta}
 use Rattle.gd_item.specs.declared.step.DriveEvent.{DriveEvent}
 use Rattle.gd_item.specs.declared.step.DriveEvent.TheVariants.{Expire, Restore, EndSession, Plain}
 use Rattle.gd_item.specs.declared.step.Step.{Step}
@@ -29,16 +29,14 @@ use Rattle.gd_item.specs.declared.step.Who.TheVariants.{Own, Other}
 use Rattle.gd_item.proofs.LogsGrow.{after_steps-append}
 use Rattle.gd_laws.proofs.Every.{every-drive}
 use Rattle.gd_laws.specs.EveryDrive.{IsOpen}
-use Rattle.od_keeper.specs.declared.image.Image.{Image}
-use Rattle.od_tree.specs.Local.{after_op, is_path, local_of}
+use Rattle.od_tree.specs.Local.{is_path}
 use Rattle.od_tree.specs.Loss.{readings}
-use Rattle.od_tree.specs.declared.step.LocalStep.{LocalStep}
 use Rattle.od_tree.specs.declared.step.LocalStep.TheVariants.{User, Op}
 use Rattle.od_run.specs.Acting.{IsPart, LegalFrom, May, MayRequest}
 use Rattle.od_run.specs.Knowing.{Known, Path, Sending, There, address_path, after_effects, begins, last_read, learn, reading_at_path, reading_for, sending_of, sent_as, there_after, there_asked, there_brought, there_heard}
 use Rattle.od_uploads.specs.Uploading.{IsReading, OwnPutsReading, PutsReading, UploadsReadings}
 use Rattle.od_run.specs.Worlds.{World, Event, Asked, Worked, Kept, happens, now, steps_in}
-use Rattle.od_uploads.proofs.Parts.{IsFilledBy, Live, at-gone, at-last, at-other, at-same, at-without, first-is, grown, grown-filled, grown_at, whole-at-finish, whole-at-last}
+use Rattle.od_uploads.proofs.Parts.{IsFilledBy, Live, at-gone, at-last, at-other, at-same, at-without, first-is, grown-filled, grown_at, whole-at-finish, whole-at-last}
 use Rattle.od_run.proofs.Truths.{all-read, here-read, reading-later}
 
 abbrev Readings : Type 0
