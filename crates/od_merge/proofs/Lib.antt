@@ -14,3 +14,4 @@ pub mod Order
 pub mod Proper
 pub mod Agreements
 pub mod Turns
+pub mod Witness

@@ -9,7 +9,7 @@ use Rattle.gd_item.specs.declared.digest.Digest.{Digest}
 use Rattle.od_keeper.specs.declared.image.Agreed.{Agreed}
 use Rattle.od_keeper.specs.declared.image.Agreed.TheVariants as agreed
 use Rattle.od_keeper.specs.declared.image.BaseRow.{BaseRow}
-use Rattle.od_merge.specs.Sides.{Path, Sides, is_path, is_from, paths_of, sides_of}
+use Rattle.od_merge.specs.Sides.{Path, Sides, Tree, is_path, is_from, paths_of, sides_of}
 use Rattle.od_merge.specs.Pairs.{local_pairs, drive_pairs}
 use Rattle.od_merge.specs.Merging.{Limits, renamed, renames, target, is_going, held, all_paths}
 
@@ -218,3 +218,7 @@ upper_b = 66 ∷ []
 abbrev pub moved_chain : List (Path × Path)
 moved_chain = drive_pairs limits (sides_of all (row (a ∷ []) (agreed_file 1) ∷ row (b ∷ []) (agreed_file 2) ∷ [])
     ((upper_b ∷ [], known 1) ∷ (c ∷ [], known 2) ∷ []) ((a ∷ [], known 1) ∷ (b ∷ [], known 2) ∷ []))
+
+-- a folder with a file in it
+abbrev pub with_file : Tree
+with_file = (d ∷ [], Folder) ∷ (d ∷ f ∷ [], known 1) ∷ []

@@ -33,7 +33,11 @@ ghost use Rattle.od_merge.specs.Instances.{
   moved_case,
   moved_chain,
   upper_b,
+  all,
+  with_file,
 };
+ghost use Rattle.od_merge.specs.Sides.{sides_of};
+ghost use Rattle.od_merge.specs.Steps.{AreTrees};
 
 pub fn plain_changes()
     ensures { plain ≡ record {
@@ -180,4 +184,9 @@ pub fn moves_are_paired()
     ensures here { moved_here ≡ (a ∷ [], b ∷ []) ∷ [] }
     ensures other_case { moved_case ≡ (a ∷ [], upper_a ∷ []) ∷ [] }
     ensures chain { moved_chain ≡ (a ∷ [], upper_b ∷ []) ∷ [] }
+{}
+
+/// A folder with a file in it is a tree on both sides.
+pub fn a_folder_with_a_file_is_a_tree()
+    ensures { AreTrees (sides_of all [] with_file with_file) }
 {}

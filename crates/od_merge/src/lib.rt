@@ -8,10 +8,10 @@ mod why;
 
 pub use content::Content;
 pub use instances::{
-    edit_against_edit, file_became_a_folder, folder_against_file, folder_that_is_not_empty,
-    folder_that_passes_stays, folders_above, folders_clash, landed_bytes_are_the_base,
-    moves_are_paired, new_names_clash, no_copy_name_is_left, old_name_clashes, plain_changes,
-    removed_name_does_not_clash, skipped_name_clashes,
+    a_folder_with_a_file_is_a_tree, edit_against_edit, file_became_a_folder, folder_against_file,
+    folder_that_is_not_empty, folder_that_passes_stays, folders_above, folders_clash,
+    landed_bytes_are_the_base, moves_are_paired, new_names_clash, no_copy_name_is_left,
+    old_name_clashes, plain_changes, removed_name_does_not_clash, skipped_name_clashes,
 };
 pub use laws::{
     a_changed_file_is_wanted, drive_alone_is_the_target, files_that_go_are_as_agreed,
