@@ -12,9 +12,7 @@ use Rattle.gd_frame.specs.declared.message.MessageCause.TheVariants.{Head, Codin
 use Rattle.gd_frame.specs.Framing.{IsAnnounced}
 use Rattle.gd_frame.specs.Syntax.{Syntax, requests, replies, syntax_of, Reads, HasNoHead, MayBecomeHead}
 use Rattle.gd_frame.specs.Messages.{HasOpenHead, IsMessage, HasNoMessage, NeverHasMessage, HasNoFittingHead, IsUnframed, HasCause, Awaits}
-use Rattle.gd_frame.specs.declared.stream.Phase.{Phase}
-use Rattle.gd_frame.specs.declared.stream.Phase.TheVariants as phase
-use Rattle.gd_frame.specs.Scanning.{IsFramed, Holds}
+use Rattle.gd_frame.specs.Scanning.{IsFramed}
 
 -- bytes begin with one head at most
 abbrev pub Unique : Syntax → Type 0
@@ -190,15 +188,6 @@ none_in_nothing s p front rest e x =
 -- of the same bytes
 pub same_parts : (s : Syntax) → Plain s → (bytes : List ℕ) (x y : IsMessage s bytes) → (x.head ≡ y.head) × (x.body ≡ y.body)
 same_parts s p bytes x y = p.unique bytes x.head y.head x.body y.body x.begins.reads y.begins.reads
-
--- what a reader begins with
-pub holds_nothing : (s : Syntax) → Plain s → (held : List ℕ) (at : Phase) → held ≡ [] → at ≡ phase.Head → Holds s held at
-holds_nothing s p held at nothing head = rw (nothing, head) (lit< tt, none_in_nothing s p)
-
--- what is held is no message
-pub holds_none : (s : Syntax) → Plain s → (held : List ℕ) (at : Phase) → Holds s held at → HasNoMessage s held
-holds_none s p held phase.Head h = h.1
-holds_none s p held (phase.Body end body) h = not_yet s p held end body h.1 h.0
 
 -- a cause is that of the head, or of what a head announces
 cause_parts : (s : Syntax) (cause : MessageCause) (bytes : List ℕ) → HasCause s cause bytes → (HasNoFittingHead s bytes × (cause ≡ Head)) ⊎ IsUnframed s cause bytes

@@ -6,6 +6,7 @@ pub mod Reading
 pub mod Feeding
 pub mod Splitting
 pub mod Ends
+pub mod Spots
 pub mod Scanning
 pub mod Laws
 pub mod Targets

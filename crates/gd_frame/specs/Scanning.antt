@@ -9,7 +9,9 @@ use Rattle.gd_frame.specs.declared.stream.Phase.TheVariants as phase
 use Rattle.gd_frame.specs.declared.stream.Taken.{Taken}
 use Rattle.gd_frame.specs.declared.stream.Taken.TheVariants.{Need, Whole, Bad}
 use Rattle.gd_frame.specs.Framing.{framing}
-use Rattle.gd_frame.specs.Syntax.{Syntax, Reads}
+use Rattle.gd_frame.specs.Syntax.{Syntax, syntax_of, Reads}
+use Rattle.gd_frame.specs.Spots.{EndsAtSpot}
+use Rattle.gd_frame.specs.declared.message.Kind.{Kind}
 use Rattle.gd_frame.specs.Messages.{BeginsWith, HasNoMessage, HasCause, HasOpenHead, Awaits}
 
 -- a head ends there, whose fields have these names and values
@@ -34,13 +36,13 @@ Scans s bytes (scan.Framed end body) = IsFramed s bytes end body
 Scans s bytes (scan.Bad cause) = HasCause s cause bytes
 
 -- what is known of the bytes that a reader holds: no head is whole yet, or one is, and the message ends later
-abbrev pub Holds : Syntax → List ℕ → Phase → Type 0
-Holds s held phase.Head = (length held < 65536) × HasNoMessage s held
-Holds s held (phase.Body end body) = (length held < end + body) × IsFramed s held end body
+abbrev pub Holds : Kind → List ℕ → Phase → Type 0
+Holds kind held (phase.Head at) = (length held < 65536) × HasNoMessage (syntax_of kind) held × EndsAtSpot kind at held
+Holds kind held (phase.Body end body) = (length held < end + body) × IsFramed (syntax_of kind) held end body
 
 -- what is held after one more piece
-abbrev pub Takes : Syntax → List ℕ → List ℕ → Result Taken NoMemory → List ℕ → Type 0
-Takes s held piece (Ok (Need at)) new = HasNoMessage s (held ++ piece) × Awaits s (held ++ piece) × (new ≡ held ++ piece) × Holds s new at
-Takes s held piece (Ok (Whole end used)) new = (used ≤ length piece) × (new ≡ held ++ take used piece) × IsFramed s new end (length new - end) × (end ≤ length new)
-Takes s held piece (Ok (Bad cause)) new = HasCause s cause (held ++ piece)
-Takes s held piece (Err e) new = ⊤
+abbrev pub Takes : Kind → List ℕ → List ℕ → Result Taken NoMemory → List ℕ → Type 0
+Takes kind held piece (Ok (Need at)) new = HasNoMessage (syntax_of kind) (held ++ piece) × Awaits (syntax_of kind) (held ++ piece) × (new ≡ held ++ piece) × Holds kind new at
+Takes kind held piece (Ok (Whole end used)) new = (used ≤ length piece) × (new ≡ held ++ take used piece) × IsFramed (syntax_of kind) new end (length new - end) × (end ≤ length new)
+Takes kind held piece (Ok (Bad cause)) new = HasCause (syntax_of kind) cause (held ++ piece)
+Takes kind held piece (Err e) new = ⊤

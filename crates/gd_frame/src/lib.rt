@@ -9,6 +9,7 @@ mod laws;
 mod message;
 mod replies;
 mod requests;
+mod spot;
 mod step;
 mod stream;
 mod target;

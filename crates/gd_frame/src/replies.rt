@@ -9,6 +9,7 @@ ghost use Rattle.gd_frame.specs.declared.message.MessageCause.{MessageCause};
 
 use crate::frame::{ReplyFrame, reply_of};
 use crate::message::Kind;
+use crate::spot::Spot;
 use crate::step::{ReadState, ReadStep};
 use crate::stream::{Phase, Taken, forget, take_piece};
 use gd_names::NoMemory;
@@ -27,7 +28,7 @@ pub struct ReplyFrames {
 }
 
 impl Model for ReplyFrames {
-    ghost use Rattle.gd_frame.specs.Syntax.{replies};
+    ghost use Rattle.gd_frame.specs.declared.message.Kind.TheVariants as Kind;
     ghost use Rattle.gd_frame.specs.Reading.{Reading};
     ghost use Rattle.gd_frame.specs.Scanning.{Holds};
 
@@ -35,7 +36,7 @@ impl Model for ReplyFrames {
 
     ghost view = { λ r. record { held = r.held.items; place = r.place; state = r.state } };
 
-    ghost invariant = { λ r. Holds replies r.held.items r.phase };
+    ghost invariant = { λ r. Holds Kind.Reply r.held.items r.phase };
 }
 
 fn take_reply(
@@ -45,9 +46,9 @@ fn take_reply(
     phase: &mut Phase,
     piece: &[u8],
 ) -> Result<ReadStep<ReplyFrame>, NoMemory>
-    requires { Holds replies held.old.items phase.old }
+    requires { Holds Kind.Reply held.old.items phase.old }
     ensures fed { Fed replies IsReply place held.old.items piece.now result held.new.items }
-    ensures holds { Holds replies held.new.items phase.new }
+    ensures holds { Holds Kind.Reply held.new.items phase.new }
 {
     match take_piece(Kind::Reply, held, *phase, piece) {
         Ok(Taken::Need(next)) => {
@@ -77,7 +78,7 @@ impl ReplyFrames {
         ReplyFrames {
             alloc,
             held: Vec::new(alloc),
-            phase: Phase::Head,
+            phase: Phase::Head(Spot::Empty),
             place: 0,
             state: ReadState::Open,
         }

@@ -9,6 +9,7 @@ ghost use Rattle.gd_frame.specs.declared.message.MessageCause.{MessageCause};
 
 use crate::frame::{RequestFrame, request_of};
 use crate::message::Kind;
+use crate::spot::Spot;
 use crate::step::{ReadState, ReadStep};
 use crate::stream::{Phase, Taken, forget, take_piece};
 use gd_names::NoMemory;
@@ -27,7 +28,7 @@ pub struct RequestFrames {
 }
 
 impl Model for RequestFrames {
-    ghost use Rattle.gd_frame.specs.Syntax.{requests};
+    ghost use Rattle.gd_frame.specs.declared.message.Kind.TheVariants as Kind;
     ghost use Rattle.gd_frame.specs.Reading.{Reading};
     ghost use Rattle.gd_frame.specs.Scanning.{Holds};
 
@@ -35,7 +36,7 @@ impl Model for RequestFrames {
 
     ghost view = { λ r. record { held = r.held.items; place = r.place; state = r.state } };
 
-    ghost invariant = { λ r. Holds requests r.held.items r.phase };
+    ghost invariant = { λ r. Holds Kind.Request r.held.items r.phase };
 }
 
 fn take_request(
@@ -45,9 +46,9 @@ fn take_request(
     phase: &mut Phase,
     piece: &[u8],
 ) -> Result<ReadStep<RequestFrame>, NoMemory>
-    requires { Holds requests held.old.items phase.old }
+    requires { Holds Kind.Request held.old.items phase.old }
     ensures fed { Fed requests IsRequest place held.old.items piece.now result held.new.items }
-    ensures holds { Holds requests held.new.items phase.new }
+    ensures holds { Holds Kind.Request held.new.items phase.new }
 {
     match take_piece(Kind::Request, held, *phase, piece) {
         Ok(Taken::Need(next)) => {
@@ -77,7 +78,7 @@ impl RequestFrames {
         RequestFrames {
             alloc,
             held: Vec::new(alloc),
-            phase: Phase::Head,
+            phase: Phase::Head(Spot::Empty),
             place: 0,
             state: ReadState::Open,
         }

@@ -1,16 +1,17 @@
 ghost use Rattle.std.specs.Prelude.{◌≡◌, []};
-ghost use Rattle.gd_frame.specs.Syntax.{syntax_of};
 ghost use Rattle.gd_frame.specs.Scanning.{Holds, Takes};
 
-use crate::head::{HeadScan, scan};
+use crate::head::{HeadScan, MAX_HEAD, scan};
 use crate::message::{Kind, MessageCause};
+use crate::spot::{Spot, is_known, spot_of};
 use gd_names::NoMemory;
 
-/// What is known of the bytes that are held: so a body's later pieces are appended, and the head is not read again.
+/// What is known of the bytes that are held: so a body's later pieces are appended, and the head is not read again for
+/// each of its pieces.
 #[derive(Clone, Copy, Debug, PartialEq, Eq)]
 pub(crate) enum Phase {
-    /// No head is whole yet.
-    Head,
+    /// No head is whole yet, and the bytes end there.
+    Head(Spot),
     /// A head of so many bytes is, and announces a body of so many.
     Body(usize, usize),
 }
@@ -27,12 +28,12 @@ pub(crate) enum Taken {
 /// Takes a piece while nothing is held: of a piece with many messages the first alone is copied.
 fn take_first(kind: Kind, held: &mut Vec<u8>, piece: &[u8]) -> Result<Taken, NoMemory>
     requires { held.old.items ≡ [] }
-    ensures { Takes (syntax_of kind) held.old.items piece.now result held.new.items }
+    ensures { Takes kind held.old.items piece.now result held.new.items }
 {
     match scan(kind, piece) {
         HeadScan::Open => {
             held.extend_from_slice(piece)?;
-            Ok(Taken::Need(Phase::Head))
+            Ok(Taken::Need(Phase::Head(spot_of(kind, Spot::Empty, piece))))
         }
         HeadScan::Bad(cause) => Ok(Taken::Bad(cause)),
         HeadScan::Framed(end, body) => {
@@ -46,16 +47,20 @@ fn take_first(kind: Kind, held: &mut Vec<u8>, piece: &[u8]) -> Result<Taken, NoM
     }
 }
 
-/// Takes a piece while no head is whole.
-fn take_head(kind: Kind, held: &mut Vec<u8>, piece: &[u8]) -> Result<Taken, NoMemory>
-    requires { Holds (syntax_of kind) held.old.items Phase.Head }
-    ensures { Takes (syntax_of kind) held.old.items piece.now result held.new.items }
+/// Takes a piece while no head is whole. While its bytes alone tell that the head is open, no other is looked at.
+fn take_head(kind: Kind, held: &mut Vec<u8>, at: Spot, piece: &[u8]) -> Result<Taken, NoMemory>
+    requires { Holds kind held.old.items (Phase.Head at) }
+    ensures { Takes kind held.old.items piece.now result held.new.items }
 {
     let before = held.as_slice().len();
     held.extend_from_slice(piece)?;
     let total = held.as_slice().len();
+    let spot = spot_of(kind, at, piece);
+    if is_known(spot) && total < MAX_HEAD {
+        return Ok(Taken::Need(Phase::Head(spot)));
+    }
     match scan(kind, held.as_slice()) {
-        HeadScan::Open => Ok(Taken::Need(Phase::Head)),
+        HeadScan::Open => Ok(Taken::Need(Phase::Head(spot))),
         HeadScan::Bad(cause) => Ok(Taken::Bad(cause)),
         HeadScan::Framed(end, body) => {
             if total - end < body {
@@ -75,8 +80,8 @@ fn take_body(
     body: usize,
     piece: &[u8],
 ) -> Result<Taken, NoMemory>
-    requires { Holds (syntax_of kind) held.old.items (Phase.Body end body) }
-    ensures { Takes (syntax_of kind) held.old.items piece.now result held.new.items }
+    requires { Holds kind held.old.items (Phase.Body end body) }
+    ensures { Takes kind held.old.items piece.now result held.new.items }
 {
     let lacks = end + body - held.as_slice().len();
     if piece.len() < lacks {
@@ -95,12 +100,12 @@ pub(crate) fn take_piece(
     phase: Phase,
     piece: &[u8],
 ) -> Result<Taken, NoMemory>
-    requires { Holds (syntax_of kind) held.old.items phase }
-    ensures { Takes (syntax_of kind) held.old.items piece.now result held.new.items }
+    requires { Holds kind held.old.items phase }
+    ensures { Takes kind held.old.items piece.now result held.new.items }
 {
     match phase {
-        Phase::Head if held.as_slice().is_empty() => take_first(kind, held, piece),
-        Phase::Head => take_head(kind, held, piece),
+        Phase::Head(_) if held.as_slice().is_empty() => take_first(kind, held, piece),
+        Phase::Head(at) => take_head(kind, held, at, piece),
         Phase::Body(end, body) => take_body(kind, held, end, body, piece),
     }
 }
@@ -108,8 +113,8 @@ pub(crate) fn take_piece(
 /// Lets go what is held.
 pub(crate) fn forget(held: &mut Vec<u8>, phase: &mut Phase)
     ensures nothing { held.new.items ≡ [] }
-    ensures head { phase.new ≡ Phase.Head }
+    ensures head { phase.new ≡ Phase.Head Spot.Empty }
 {
     held.clear();
-    *phase = Phase::Head;
+    *phase = Phase::Head(Spot::Empty);
 }

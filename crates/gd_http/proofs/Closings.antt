@@ -1,7 +1,7 @@
 -- One more word of a list.
-use Rattle.std.proofs.Common.{◌≡◌, ℕ, Bool, true, false, List, Option, refl}
+use Rattle.std.proofs.Common.{◌≡◌, ℕ, true, false, List, Option, refl}
 use Rattle.std.specs.List.{list_any}
-use Rattle.gd_target.specs.Cuts.{cut, parts, parts_after}
+use Rattle.gd_target.specs.Cuts.{cut, parts_after}
 use Rattle.gd_target.proofs.Cutting.{parts_cut}
 use Rattle.gd_http.specs.Closing.{is_close, lists_close}
 

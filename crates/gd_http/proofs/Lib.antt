@@ -1,2 +1,6 @@
 pub mod Closings
 pub mod Heard
+pub mod Said
+pub mod Sections
+pub mod RequestsAgain
+pub mod RepliesAgain

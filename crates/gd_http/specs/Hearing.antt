@@ -8,6 +8,7 @@ use Rattle.gd_frame.specs.declared.step.ReadStep.{ReadStep}
 use Rattle.gd_frame.specs.declared.step.ReadStep.TheVariants.{Need, Done, Bad}
 use Rattle.gd_frame.specs.Frames.{IsRequest}
 use Rattle.gd_frame.specs.Feeding.{Fed, state_after, place_after}
+use Rattle.gd_frame.specs.Messages.{HasNoMessage}
 use Rattle.gd_frame.specs.Reading.{Reading}
 use Rattle.gd_frame.specs.Syntax.{requests}
 use Rattle.gd_http.specs.declared.incoming.Incoming.{Incoming}
@@ -51,8 +52,9 @@ ClosesAfter old piece (Ok (Done message used)) closes = RequestCloses (old.held 
 ClosesAfter old piece (Ok (Bad at cause)) closes = closes ≡ old.closes
 ClosesAfter old piece (Err e) closes = closes ≡ old.closes
 
--- a reader that goes on takes a piece
+-- a reader that goes on takes a piece: no front of what it held is a message
 pub record Hears {F : Type 0} (Is : List ℕ → F → Type 0) (old : Hearing) (piece : List ℕ) (result : Result (ReadStep F) NoMemory) (new : Hearing) : Type 0 where
+  pub unfinished : HasNoMessage requests old.held
   pub bytes : Fed requests Is old.place old.held piece result new.held
   pub state : new.state ≡ state_after result
   pub place : OnOk result (new.place ≡ place_after (reading_of old) result)

@@ -51,8 +51,9 @@ ReplyFed l piece (Ok (Done reply used)) new = (used ≤ length piece) × ReplyBy
 ReplyFed l piece (Ok (Bad at cause)) new = (at ≡ l.reading.place) × HasReplyCause l cause l.reading.held piece × (new ≡ [])
 ReplyFed l piece (Err e) new = new ≡ []
 
--- a reader that goes on takes a piece
+-- a reader that goes on takes a piece: no front of what it held is a message
 pub record HearsReply (old : Listening) (piece : List ℕ) (result : Result (ReadStep Reply) NoMemory) (new : Reading) : Type 0 where
+  pub unfinished : HasNoMessage replies old.reading.held
   pub bytes : ReplyFed old piece result new.held
   pub state : new.state ≡ state_after result
   pub place : OnOk result (new.place ≡ place_after old.reading result)

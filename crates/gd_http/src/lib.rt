@@ -7,6 +7,8 @@ mod closing;
 mod fault;
 mod header;
 mod incoming;
+mod known;
+mod laws;
 mod method;
 mod range;
 mod reader;
@@ -20,6 +22,11 @@ mod writing;
 pub use fault::ReplyFault;
 pub use gd_frame::{MAX_BODY, MAX_HEAD, MAX_HEADERS, MessageCause, ReadStep, ReplyEnd, reply_end};
 pub use incoming::Incoming;
+pub use laws::{
+    one_cause, one_hearing_of_replies, one_hearing_of_requests, one_reply, one_request,
+    replies_cut_anywhere, requests_cut_anywhere, streams_go_on, whole_reply_done,
+    whole_request_done,
+};
 pub use range::Range;
 pub use reader::RequestReader;
 pub use replies::{Ending, ReplyReader};

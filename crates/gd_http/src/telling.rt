@@ -4,9 +4,12 @@ ghost use Rattle.std.specs.Fmt.{decimal};
 ghost use Rattle.gd_item.specs.Replies.{status_of_reply};
 ghost use Rattle.gd_target.specs.Targets.{download_text, delta_text};
 ghost use Rattle.gd_http.specs.Written.{line_end, or_bytes};
+ghost use Rattle.gd_http.specs.HearingReplies.{Listening, ReplyBytes};
+ghost use Rattle.gd_http.specs.Sending.{IsAnswer, HasReplyBody};
 ghost use Rattle.gd_http.specs.WrittenReplies.{phrase_of, version_text, status_text, link_field, location_header, code_of, json_of, bytes_type, type_header, bytes_of, length_header, reply_front, reply_rest, written_reply};
 
 use crate::answer::feed_link;
+use crate::known::known_reply;
 use crate::writing::{or_bytes, put_body, put_field, put_length, put_type};
 use gd_item::{ErrorCode, ItemId, Reply, Resync};
 use gd_json::{
@@ -146,7 +149,8 @@ fn code_of(resync: Resync) -> ErrorCode
 
 /// The body in JSON, of the replies that have one.
 fn json_of(alloc: Global, reply: &Reply, wire: &Wire) -> Result<Option<Bytes>, NoMemory>
-    ensures { IfOk result (λ json. json ≡ json_of wire.now.base reply.now) }
+    ensures is { IfOk result (λ json. json ≡ json_of wire.now.base reply.now) }
+    ensures read_again { OnOk result (HasReplyBody wire.now.base reply.now) }
 {
     match reply {
         Reply::Made(item) | Reply::Is(item) => {
@@ -255,10 +259,10 @@ fn put_rest(
     Ok(())
 }
 
-/// Writes a reply in its one spelling.
 #[tactic(auto, unfolding(crate::specs::WrittenReplies::written_reply))]
-pub fn write_reply(alloc: Global, reply: &Reply, wire: &Wire) -> Result<Bytes, NoMemory>
-    ensures { IfOk result (λ b. b ≡ written_reply wire.now.base reply.now) }
+fn spelling(alloc: Global, reply: &Reply, wire: &Wire) -> Result<Bytes, NoMemory>
+    ensures text { IfOk result (λ b. b ≡ written_reply wire.now.base reply.now) }
+    ensures has { OnOk result (HasReplyBody wire.now.base reply.now) }
 {
     let json = json_of(alloc, reply, wire)?;
     let mut out = Bytes::new(alloc);
@@ -270,5 +274,15 @@ pub fn write_reply(alloc: Global, reply: &Reply, wire: &Wire) -> Result<Bytes, N
         &json,
         or_bytes(&json, bytes_of(reply)),
     )?;
+    Ok(out)
+}
+
+/// Writes a reply in its one spelling. Within the limits it is read again as what it was, by who asked for it.
+pub fn write_reply(alloc: Global, reply: &Reply, wire: &Wire) -> Result<Bytes, NoMemory>
+    ensures text { IfOk result (λ b. b ≡ written_reply wire.now.base reply.now) }
+    ensures read_again { IfOk result (λ b. (l : Listening) → l.base ≡ wire.now.base → IsAnswer l.base l.kind reply.now → ReplyBytes l b reply.now) }
+{
+    known_reply(reply);
+    let out = spelling(alloc, reply, wire)?;
     Ok(out)
 }

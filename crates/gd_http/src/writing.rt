@@ -3,7 +3,11 @@ ghost use Rattle.std.specs.Prelude.{◌≡◌, ◌++◌, length, IfOk, OnOk, opt
 ghost use Rattle.std.specs.Fmt.{decimal};
 ghost use Rattle.gd_http.specs.Written.{field_text, method_text, version_end, line_text, host_text, condition_text, condition_header, range_value, range_header, json_of, bytes_of, or_bytes, type_text, length_text, body_text, first_part, last_part, written_request};
 ghost use Rattle.gd_target.specs.Targets.{target_text};
+ghost use Rattle.gd_http.specs.Hearing.{RequestBytes};
+ghost use Rattle.gd_http.specs.Sending.{IsSendable, HasBody};
 
+use crate::incoming::Incoming;
+use crate::known::known_request;
 use gd_item::{Condition, Request};
 use gd_json::{BeginBody, FolderBody, PatchBody, Wire, write_begin, write_folder, write_patch};
 use gd_names::{Bytes, NoMemory};
@@ -113,7 +117,8 @@ fn put_range(alloc: Global, out: &mut Bytes, request: &Request) -> Result<(), No
 
 /// The body in JSON, of the requests that have one.
 fn json_of(alloc: Global, request: &Request) -> Result<Option<Bytes>, NoMemory>
-    ensures { IfOk result (λ json. json ≡ json_of request.now) }
+    ensures is { IfOk result (λ json. json ≡ json_of request.now) }
+    ensures read_again { OnOk result (HasBody request.now) }
 {
     match request {
         Request::MakeFolder {
@@ -222,14 +227,24 @@ pub fn or_bytes<'b>(json: &'b Option<Bytes>, bytes: &'b [u8]) -> &'b [u8]
     }
 }
 
-/// Writes a request in its one spelling.
 #[tactic(auto, unfolding(crate::specs::Written::written_request))]
-pub fn write_request(alloc: Global, request: &Request, wire: &Wire) -> Result<Bytes, NoMemory>
-    ensures { IfOk result (λ b. b ≡ written_request wire.now.base request.now) }
+fn spelling(alloc: Global, request: &Request, wire: &Wire) -> Result<Bytes, NoMemory>
+    ensures text { IfOk result (λ b. b ≡ written_request wire.now.base request.now) }
+    ensures has { OnOk result (HasBody request.now) }
 {
     let json = json_of(alloc, request)?;
     let mut out = Bytes::new(alloc);
     put_first(alloc, &mut out, request, wire)?;
     put_last(alloc, &mut out, &json, or_bytes(&json, bytes_of(request)))?;
+    Ok(out)
+}
+
+/// Writes a request in its one spelling. Within the limits it is read again as what it was.
+pub fn write_request(alloc: Global, request: &Request, wire: &Wire) -> Result<Bytes, NoMemory>
+    ensures text { IfOk result (λ b. b ≡ written_request wire.now.base request.now) }
+    ensures read_again { IfOk result (λ b. IsSendable wire.now.base request.now → RequestBytes b (Incoming.Ask request.now)) }
+{
+    known_request(request);
+    let out = spelling(alloc, request, wire)?;
     Ok(out)
 }

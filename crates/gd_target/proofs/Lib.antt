@@ -1,2 +1,4 @@
 pub mod Cutting
 pub mod Values
+pub mod Plain
+pub mod Again

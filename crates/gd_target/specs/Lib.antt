@@ -3,3 +3,4 @@ pub mod Faults
 pub mod Queries
 pub mod Resources
 pub mod Targets
+pub mod Asked

@@ -3,6 +3,7 @@
 
 mod cuts;
 mod fault;
+mod laws;
 mod number;
 mod query;
 mod resource;
@@ -10,6 +11,7 @@ mod written;
 
 pub use cuts::{cut, past};
 pub use fault::RequestFault;
+pub use laws::targets_read_back;
 pub use number::number_of;
 pub use query::{QueryMember, one_more, query_of, query_value};
 pub use resource::{Resource, download_of, named_by};

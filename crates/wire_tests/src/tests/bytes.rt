@@ -3,10 +3,10 @@ use gd_http::{Incoming, ReadStep, RequestReader, write_reply, write_request};
 use gd_item::{ErrorCode, Reply, Request};
 use std::test::Fail;
 
-const FRESH: &[u8] =
+pub const FRESH: &[u8] =
     b"GET /v1.0/me/drive/root/delta HTTP/1.1\r\nHost: 127.0.0.1:8080\r\nContent-Length: 0\r\n\r\n";
 
-const NOT_FOUND: &[u8] =
+pub const NOT_FOUND: &[u8] =
     b"HTTP/1.1 404 Not Found\r\nContent-Type: application/json\r\nContent-Length: 58\r\n\r\n{\"error\":{\"code\":\"itemNotFound\",\"message\":\"itemNotFound\"}}";
 
 #[test]

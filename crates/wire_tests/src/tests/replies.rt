@@ -43,7 +43,7 @@ fn reply_name(reply: &Reply) -> &'static str {
     }
 }
 
-fn cause_name(cause: MessageCause) -> &'static str {
+pub fn cause_name(cause: MessageCause) -> &'static str {
     match cause {
         MessageCause::Head => "Head",
         MessageCause::Coding => "Coding",

@@ -1,3 +1,4 @@
+use super::replies::cause_name;
 use super::wire;
 use gd_http::{Incoming, ReadStep, RequestReader};
 use gd_item::RequestKind;
@@ -46,7 +47,7 @@ fn step_name(step: &ReadStep<Incoming>) -> &'static str {
     match step {
         ReadStep::Need => "need",
         ReadStep::Done(message, _) => message_name(message),
-        ReadStep::Bad { .. } => "bad",
+        ReadStep::Bad { cause, .. } => cause_name(*cause),
     }
 }
 
@@ -89,6 +90,9 @@ fn targets_name_what_is_asked(rt: HostRuntime) -> Result<(), Fail> {
         ("GET /v1.0/me/drive/root:/a%20b/c", "get"),
         ("GET /v1.0/me/drive/root:/a:", "get"),
         ("GET /v1.0/me/drive/root:/a%2Fb", "404"),
+        ("GET /v1.0/me/drive/root:/a%00b", "404"),
+        ("GET /v1.0/me/drive/root:/a%ffb", "404"),
+        ("GET /v1.0/me/drive/root:/a:b", "404"),
         ("GET /v1.0/me/drive/root:/a/", "404"),
         ("GET /v1.0/me/drive/items/01GD0000000000000002", "get"),
         ("GET /v1.0/me/drive/items/01GD000000000000000a", "404"),
@@ -252,6 +256,40 @@ fn bodies_are_read(rt: HostRuntime) -> Result<(), Fail> {
         ("POST /v1.0/$batch", "5", "batch"),
     ] {
         assert_eq!(rt; with_body(rt.alloc(), line, body)?, what, "{line} {body}");
+    }
+    Ok(())
+}
+
+#[test]
+fn hostile_bytes_have_a_cause(rt: HostRuntime) -> Result<(), Fail> {
+    let rows: [(&[u8], &str); 12] = [
+        (b"GET /x HTTP/1.1\nA: b\n\n", "404"),
+        (b"GET /x HTTP/1.1\r\nA: b\r\n c\r\n\r\n", "Head"),
+        (b"GET /x HTTP/1.1\r\nA: \0\r\n\r\n", "Head"),
+        (b"GET /\0 HTTP/1.1\r\n\r\n", "Head"),
+        (b"G@T /x HTTP/1.1\r\n\r\n", "Head"),
+        (b"PUT /x HTTP/1.1\r\ncONTENT-lENGTH: 02\r\n\r\nhi", "404"),
+        (b"PUT /x HTTP/1.1\r\nContent-Length: -1\r\n\r\n", "Framing"),
+        (b"PUT /x HTTP/1.1\r\nContent-Length: 1 1\r\n\r\n", "Framing"),
+        (
+            b"PUT /x HTTP/1.1\r\nContent-Length: 1\r\ncontent-length: 1\r\n\r\nx",
+            "Framing",
+        ),
+        (
+            b"PUT /x HTTP/1.1\r\nContent-Length: 67108864\r\n\r\n",
+            "need",
+        ),
+        (
+            b"PUT /x HTTP/1.1\r\nContent-Length: 67108865\r\n\r\n",
+            "Body",
+        ),
+        (
+            b"PUT /x HTTP/1.1\r\nContent-Length: 18446744073709551616\r\n\r\n",
+            "Framing",
+        ),
+    ];
+    for (bytes, what) in rows {
+        assert_eq!(rt; heard(rt.alloc(), bytes)?, what);
     }
     Ok(())
 }

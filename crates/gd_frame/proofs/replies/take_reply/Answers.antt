@@ -2,11 +2,11 @@ use Rattle.std.proofs.Common.{ap, subst, ◌∙◌}
 use Rattle.gd_frame.specs.declared.message.Kind.TheVariants.{Reply}
 use Rattle.gd_frame.specs.Syntax.{replies}
 use Rattle.gd_frame.specs.Frames.{IsReply}
-use Rattle.gd_frame.proofs.Heads.{plain, holds_nothing}
+use Rattle.gd_frame.proofs.Holding.{holds_nothing}
 use Rattle.gd_frame.proofs.replies.take_reply.Goals as goal
 
 pub returns-in_err-reply_of-in-Ok-Whole-clause-holds : goal.returns-in_err-reply_of-in-Ok-Whole-clause-holds
-returns-in_err-reply_of-in-Ok-Whole-clause-holds c = holds_nothing replies (plain Reply) c.forget.new.held.items c.forget.new.phase c.forget.ensures.nothing c.forget.ensures.head
+returns-in_err-reply_of-in-Ok-Whole-clause-holds c = holds_nothing Reply c.forget.new.held.items c.forget.new.phase c.forget.ensures.nothing c.forget.ensures.head
 
 pub returns-in_ok-reply_of-in-Ok-Whole-clause-fed : goal.returns-in_ok-reply_of-in-Ok-Whole-clause-fed
 returns-in_ok-reply_of-in-Ok-Whole-clause-fed c =
@@ -14,10 +14,10 @@ returns-in_ok-reply_of-in-Ok-Whole-clause-fed c =
     (taken.0, subst (λ b. IsReply b c.in_ok-reply_of-in-Ok-Whole.field-0) (ap (λ v. v.items) c.replace-whole.ensures.value ∙ taken.1) c.in_ok-reply_of-in-Ok-Whole.ensures, c.forget.ensures.nothing)
 
 pub returns-in_ok-reply_of-in-Ok-Whole-clause-holds : goal.returns-in_ok-reply_of-in-Ok-Whole-clause-holds
-returns-in_ok-reply_of-in-Ok-Whole-clause-holds c = holds_nothing replies (plain Reply) c.forget.new.held.items c.forget.new.phase c.forget.ensures.nothing c.forget.ensures.head
+returns-in_ok-reply_of-in-Ok-Whole-clause-holds c = holds_nothing Reply c.forget.new.held.items c.forget.new.phase c.forget.ensures.nothing c.forget.ensures.head
 
 pub returns-in-Ok-Bad-clause-holds : goal.returns-in-Ok-Bad-clause-holds
-returns-in-Ok-Bad-clause-holds c = holds_nothing replies (plain Reply) c.forget-in-Ok-Bad.new.held.items c.forget-in-Ok-Bad.new.phase c.forget-in-Ok-Bad.ensures.nothing c.forget-in-Ok-Bad.ensures.head
+returns-in-Ok-Bad-clause-holds c = holds_nothing Reply c.forget-in-Ok-Bad.new.held.items c.forget-in-Ok-Bad.new.phase c.forget-in-Ok-Bad.ensures.nothing c.forget-in-Ok-Bad.ensures.head
 
 pub returns-in-Err-clause-holds : goal.returns-in-Err-clause-holds
-returns-in-Err-clause-holds c = holds_nothing replies (plain Reply) c.forget-in-Err.new.held.items c.forget-in-Err.new.phase c.forget-in-Err.ensures.nothing c.forget-in-Err.ensures.head
+returns-in-Err-clause-holds c = holds_nothing Reply c.forget-in-Err.new.held.items c.forget-in-Err.new.phase c.forget-in-Err.ensures.nothing c.forget-in-Err.ensures.head
