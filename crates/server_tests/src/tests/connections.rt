@@ -18,9 +18,13 @@ fn numbers(alloc: Global, number: Option<u64>) -> Result<List<u64>, Fail> {
 fn transcript(alloc: Global, written: &[u8], end: ServeEnd) -> Result<String, Fail> {
     let mut text = String::new(alloc);
     for window in written.windows(12) {
-        if window.starts_with(b"HTTP/1.1 ") {
-            text.push_str(str::from_utf8(&window[9..])?)?;
-            text.push_str(" ")?;
+        if let [.., hundreds, tens, ones] = window
+            && window.starts_with(b"HTTP/1.1 ")
+        {
+            for digit in [hundreds, tens, ones] {
+                text.push(char::from(*digit))?;
+            }
+            text.push(' ')?;
         }
     }
     let word = match end {
