@@ -1,9 +1,12 @@
 mod drives;
 mod files;
 mod folders;
+mod fragments;
 mod items;
+mod limits;
 mod moves;
 mod names;
+mod openings;
 mod reads;
 mod requests;
 mod sessions;
