@@ -1,3 +1,4 @@
+mod compared;
 mod drives;
 mod files;
 mod folders;
@@ -7,6 +8,7 @@ mod limits;
 mod moves;
 mod names;
 mod openings;
+mod plain;
 mod reads;
 mod requests;
 mod sessions;
