@@ -325,3 +325,24 @@ too-many-replies start now pulled on =
       ended_is = sym on.ends;
       all = λ ended. absurd (cc ended);
     }
+
+-- the same where so many were left
+counted-down : (start now : WorldValue) (pulled : Pulled) (left : ℕ) → 0 < left → TakingOn start now pulled left → TakingOn start now pulled (suc (left - 1))
+counted-down start now pulled left some on =
+    let one : left ≡ suc (left - 1) = omega arith in
+    subst (λ n. TakingOn start now pulled n) one on
+
+pub more-came : (start before after : WorldValue) (pulled next : Pulled) (left : ℕ) (taken : Taken) → 0 < left → TakingOn start before pulled left → Takes before after pulled next taken → taken ≡ More
+    → TakingOn start after next (left - 1)
+more-came start before after pulled next left taken some on takes is =
+    one-reply-more start before after pulled next (left - 1) (counted-down start before pulled left some on) (subst (λ (t : Taken). Takes before after pulled next t) is takes)
+
+pub last-came : (start before after : WorldValue) (pulled next : Pulled) (left : ℕ) (taken : Taken) → 0 < left → TakingOn start before pulled left → Takes before after pulled next taken → taken ≡ Last
+    → TakesPages start after next true
+last-came start before after pulled next left taken some on takes is =
+    last-reply start before after pulled next (left - 1) (counted-down start before pulled left some on) (subst (λ (t : Taken). Takes before after pulled next t) is takes)
+
+pub none-left : (start now : WorldValue) (pulled : Pulled) (left : ℕ) → left ≤ 0 → TakingOn start now pulled left → TakesPages start now pulled false
+none-left start now pulled left none on =
+    let zero_left : left ≡ 0 = omega arith in
+    too-many-replies start now pulled (subst (λ n. TakingOn start now pulled n) zero_left on)

@@ -55,8 +55,12 @@ fn take_reply(world: &mut World, mirror: &mut Mirror) -> Result<Taken, NoMemory>
     ensures { IfOk result (λ taken. Takes world.old world.new mirror.old mirror.new taken) }
 {
     let token = copy_token(mirror.token())?;
-    match world.other(Request::Delta { token })? {
-        Reply::Page(page) => mirror.take_page(&page),
+    let reply = world.other(Request::Delta { token })?;
+    match reply {
+        Reply::Page(page) => {
+            let taken = mirror.take_page(&page)?;
+            Ok(taken)
+        }
         Reply::Gone(_) => {
             mirror.gone();
             Ok(Taken::More)
@@ -74,7 +78,8 @@ fn take_pages(world: &mut World, mirror: &mut Mirror) -> Result<bool, NoMemory>
     let mut left = MOST_REPLIES;
     while 0 < left {
         left -= 1;
-        match take_reply(world, mirror)? {
+        let taken = take_reply(world, mirror)?;
+        match taken {
             Taken::Last => return Ok(true),
             Taken::More => {}
         }
@@ -118,7 +123,8 @@ pub fn print_pull(alloc: Global, world: &mut World, out: &mut Bytes) -> Result<(
     ensures { OnOk result (Plays world.old world.new out.old out.new Line.Pull) }
 {
     let mut mirror = Mirror::start(alloc, List::new(alloc), None);
-    if take_pages(world, &mut mirror)? {
+    let ended = take_pages(world, &mut mirror)?;
+    if ended {
         print_pulled(alloc, out, world.store(), mirror)
     } else {
         out.push_slice(b"pull Endless\n")

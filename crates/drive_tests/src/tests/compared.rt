@@ -93,7 +93,9 @@ fn put(alloc: Global, dice: &mut Dice, both: &mut Both, number: u64) -> Result<b
     let condition = dice.condition(alloc, both.plain.number())?;
     let size = dice.roll(5);
     let bytes = Vec::from_elem(alloc, 61, size as usize)?;
-    let put = both.store.put(&place, bytes.as_slice(), behaviour, &condition, 0);
+    let put = both
+        .store
+        .put(&place, bytes.as_slice(), behaviour, &condition, 0);
     Ok(both.plain.put(&place, size, behaviour, &condition) == put)
 }
 
@@ -112,7 +114,9 @@ fn patch(
     } else {
         Some(ItemId(parent))
     };
-    let moved = both.store.patch(ItemId(number), Some(&name), folder, &condition);
+    let moved = both
+        .store
+        .patch(ItemId(number), Some(&name), folder, &condition);
     Ok(both.plain.patch(number, &name, parent, &condition) == moved)
 }
 

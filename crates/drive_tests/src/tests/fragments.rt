@@ -43,13 +43,31 @@ fn refused_fragments(rt: HostRuntime) -> Result<(), Fail> {
     let mut sessions = begun(alloc)?;
     for (session, range, count, kept, fault) in [
         (3, (0, 9, 10), 10, 0, SessionFault::NoSession),
-        (1, (327_680, 655_359, 655_362), 327_680, 0, SessionFault::Total),
+        (
+            1,
+            (327_680, 655_359, 655_362),
+            327_680,
+            0,
+            SessionFault::Total,
+        ),
         (2, (5, 4, 10), 0, 0, SessionFault::Form),
         (2, (0, 10, 10), 11, 0, SessionFault::Form),
         (2, (0, 9, 10), 9, 0, SessionFault::Form),
         (2, (0, 9, 67_108_865), 10, 0, SessionFault::TooLarge),
-        (2, (0, 62_914_559, 67_108_864), 62_914_560, 0, SessionFault::TooLarge),
-        (1, (0, 327_679, 655_361), 327_680, 0, SessionFault::Range(327_680)),
+        (
+            2,
+            (0, 62_914_559, 67_108_864),
+            62_914_560,
+            0,
+            SessionFault::TooLarge,
+        ),
+        (
+            1,
+            (0, 327_679, 655_361),
+            327_680,
+            0,
+            SessionFault::Range(327_680),
+        ),
         (2, (5, 9, 10), 5, 0, SessionFault::Range(0)),
         (2, (0, 4, 10), 5, 0, SessionFault::Multiple),
         (2, (0, 9, 10), 10, MOST_BYTES - 327_689, SessionFault::Quota),
@@ -60,7 +78,14 @@ fn refused_fragments(rt: HostRuntime) -> Result<(), Fail> {
             "{fault:?}"
         );
     }
-    let received = fault_of(alloc, &mut sessions, 2, (0, 9, 10), 10, MOST_BYTES - 327_690)?;
+    let received = fault_of(
+        alloc,
+        &mut sessions,
+        2,
+        (0, 9, 10),
+        10,
+        MOST_BYTES - 327_690,
+    )?;
     assert_eq!(rt; received, None);
     Ok(())
 }
@@ -75,17 +100,35 @@ fn fragments_refused_for_the_first_of_two_causes(rt: HostRuntime) -> Result<(), 
         (3, (0, 4, 10), 5, 0, SessionFault::NoSession),
         (3, (0, 9, 10), 10, MOST_BYTES, SessionFault::NoSession),
         (1, (327_680, 327_679, 655_362), 0, 0, SessionFault::Total),
-        (1, (327_680, 327_689, 67_108_865), 10, 0, SessionFault::Total),
+        (
+            1,
+            (327_680, 327_689, 67_108_865),
+            10,
+            0,
+            SessionFault::Total,
+        ),
         (1, (0, 327_679, 655_362), 327_680, 0, SessionFault::Total),
         (1, (327_680, 327_689, 655_362), 10, 0, SessionFault::Total),
-        (1, (327_680, 655_359, 655_362), 327_680, MOST_BYTES, SessionFault::Total),
+        (
+            1,
+            (327_680, 655_359, 655_362),
+            327_680,
+            MOST_BYTES,
+            SessionFault::Total,
+        ),
         (2, (0, 9, 67_108_865), 9, 0, SessionFault::Form),
         (2, (5, 4, 10), 0, 0, SessionFault::Form),
         (2, (0, 4, 10), 4, 0, SessionFault::Form),
         (2, (0, 9, 10), 9, MOST_BYTES, SessionFault::Form),
         (2, (5, 9, 67_108_865), 5, 0, SessionFault::TooLarge),
         (2, (0, 9, 67_108_865), 10, 0, SessionFault::TooLarge),
-        (2, (0, 327_679, 67_108_865), 327_680, MOST_BYTES, SessionFault::TooLarge),
+        (
+            2,
+            (0, 327_679, 67_108_865),
+            327_680,
+            MOST_BYTES,
+            SessionFault::TooLarge,
+        ),
         (2, (5, 8, 10), 4, 0, SessionFault::Range(0)),
         (2, (5, 9, 10), 5, MOST_BYTES, SessionFault::Range(0)),
         (2, (0, 4, 10), 5, MOST_BYTES, SessionFault::Multiple),
@@ -220,8 +263,15 @@ fn count_of(drive: &mut Drive, session: u64) -> u64 {
 }
 
 /// The sessions, and why each of them is refused.
-const OVERTAKEN: [(u64, u16); 7] =
-    [(1, 400), (2, 412), (3, 412), (4, 409), (5, 404), (6, 404), (7, 412)];
+const OVERTAKEN: [(u64, u16); 7] = [
+    (1, 400),
+    (2, 412),
+    (3, 412),
+    (4, 409),
+    (5, 404),
+    (6, 404),
+    (7, 412),
+];
 
 #[test]
 fn overtaken_sessions_are_not_completed(rt: HostRuntime) -> Result<(), Fail> {
@@ -245,7 +295,11 @@ fn overtaken_sessions_are_not_finished(rt: HostRuntime) -> Result<(), Fail> {
     for (session, status) in OVERTAKEN {
         assert_eq!(rt; status_of(&mut drive, &Request::Finish { session }), 400);
         assert_eq!(rt; send(alloc, &mut drive, session)?, 0, "{session}");
-        assert_eq!(rt; status_of(&mut drive, &Request::Finish { session }), status, "{session}");
+        assert_eq!(rt;
+            status_of(&mut drive, &Request::Finish { session }),
+            status,
+            "{session}"
+        );
         assert_eq!(rt; count_of(&mut drive, session), 10, "{session}");
     }
     Ok(())

@@ -120,7 +120,10 @@ fn many_sessions_are_the_last_cause(rt: HostRuntime) -> Result<(), Fail> {
             "{name} in {id}, {body}, {tag}"
         );
     }
-    assert_eq!(rt; status_of(&mut drive, &Request::CancelSession { session: 500 }), 0);
+    assert_eq!(rt;
+        status_of(&mut drive, &Request::CancelSession { session: 500 }),
+        0
+    );
     assert_eq!(rt; open(alloc, &mut drive, 1, "n", "", "")?, 0);
     Ok(())
 }

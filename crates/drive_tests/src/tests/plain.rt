@@ -417,7 +417,9 @@ impl PlainStore {
             if entry.change == change {
                 let (number, parent, name) = (entry.number, entry.parent, entry.name.as_str());
                 return Ok(match entry.size {
-                    Some(size) => format!(in self.alloc; "{number} {name} in {parent} e{change}, {size} bytes\n")?,
+                    Some(size) => format!(in self.alloc;
+                        "{number} {name} in {parent} e{change}, {size} bytes\n"
+                    )?,
                     None => format!(in self.alloc; "{number} {name}/ in {parent} e{change}\n")?,
                 });
             }
