@@ -194,7 +194,7 @@ module _ (log : List Step) (size : ℕ) (some : 0 < size) (pulled : Pulled) (on 
           items_are =
               items-after changes last.items
               ∙ ap (λ (es : List (ℕ × Item)). with_records [] (shown_items (state_of log).plain (values_of es))) (sym on.feed_is);
-          last = subst (λ (o : Option (List ℕ)). IsSome o) (sym (ap (λ (l : PageLink). (after_link (with_records pulled.items page.items) l).last) link_is)) tt;
+          last = subst (λ (o : Option (List ℕ)). IsSome o) (sym (ap (λ (l : PageLink). (after_link (with_records pulled.items page.items) l).last) link_is)) refl;
         }
 
     pub link-next : (token : List ℕ) → page.link ≡ link.Next token → next_of (answer_of log size (Delta pulled.token)) ≡ Some (after_page pulled page).token

@@ -51,7 +51,7 @@ fn paths_in(alloc: Global, page: &Page) -> Result<List<(Path, Item)>, NoMemory>
 
 /// Takes the reply to one more request of a pull by another client.
 fn take_reply(world: &mut World, mirror: &mut Mirror) -> Result<Taken, NoMemory>
-    requires underway { IsUnderway (state_of world.old.log) mirror.old }
+    requires { IsUnderway (state_of world.old.log) mirror.old }
     ensures { IfOk result (λ taken. Takes world.old world.new mirror.old mirror.new taken) }
 {
     let token = copy_token(mirror.token())?;

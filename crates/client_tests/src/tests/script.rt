@@ -19,7 +19,10 @@ fn scripts(rt: HostRuntime) {
         ("other put /a \"\"\nother mkdir /b\npull", 3),
         ("other move /a /b/c\nother rm /b\ndrive", 3),
         ("other put /a fill 1 00", 1),
-        ("page 200\nexpire 4294967295\nrestore\nendsession 1\npull", 5),
+        (
+            "page 200\nexpire 4294967295\nrestore\nendsession 1\npull",
+            5,
+        ),
         ("sync\nendsession 1\nsync\npage 1", 4),
     ];
     for (text, wanted) in rows {

@@ -28,7 +28,7 @@ returns-then-ended c =
     (λ printed. pull-plays c.args.world.now c.take_pages.new.world c.take_pages.new.mirror true c.args.out.now c.print_pulled.new.out (subst (λ b. TakesPages c.args.world.now c.take_pages.new.world c.take_pages.new.mirror b) c.if-ended.true takes)
     (printed log (takes.all c.if-ended.true) (sym (ap (λ (s : State). s.plain) takes.rests) ∙ c.store.ensures.whole) (subst (λ (s : State). Holds c.store.result.now s.effects) takes.rests c.store.ensures.holds)))
 
-pub returns : goal.returns
-returns c =
+pub returns-else-ended : goal.returns-else-ended
+returns-else-ended c =
     ok-gives c.push_slice.result _ (Plays c.args.world.now c.take_pages.new.world c.args.out.now c.push_slice.new.self Pull) c.push_slice.ensures.ok
     (λ printed. pull-plays c.args.world.now c.take_pages.new.world c.take_pages.new.mirror false c.args.out.now c.push_slice.new.self (subst (λ b. TakesPages c.args.world.now c.take_pages.new.world c.take_pages.new.mirror b) c.if-ended.false c.in_ok-ended.ensures) printed)
