@@ -107,10 +107,10 @@ requests-lead world folder kept counted now followed given steps old new is all 
 -- an event leaves a token served, or this client follows the drive no more
 still-served : (log : List Step) (happens : DriveEvent) (follow followed : Bool) (image : Image) → (list_all is_token_safe (Event happens ∷ []) ≡ true) ⊎ (follow ≡ false) → (followed ≡ true → HasServable image log)
     → (follow && followed) ≡ true → HasServable image (log ++ Event happens ∷ [])
-still-served log happens true followed image (inl safe) servable yes = served-stays log (Event happens ∷ []) image.token safe (servable yes)
-still-served log happens false followed image (inl safe) servable yes = absurd (cc yes)
-still-served log happens true followed image (inr no_more) servable yes = absurd (cc no_more)
-still-served log happens false followed image (inr no_more) servable yes = absurd (cc yes)
+still-served log happens true followed image (inl safe) servable both_so = served-stays log (Event happens ∷ []) image.token safe (servable both_so)
+still-served log happens false followed image (inl safe) servable both_so = absurd (cc both_so)
+still-served log happens true followed image (inr no_more) servable both_so = absurd (cc no_more)
+still-served log happens false followed image (inr no_more) servable both_so = absurd (cc both_so)
 
 -- what happens to the drive
 module _ (before after : WorldValue) (folder folder_after : MemoryTree) (kept kept_after : MemoryKeeper) (counted counted_after : ℕ) (followed followed_after : Bool) (out : List ℕ)
@@ -152,7 +152,7 @@ module _ (before after : WorldValue) (folder folder_after : MemoryTree) (kept ke
           text = [];
           stands =
               stands-on run next stands refl refl refl (ap (λ (w : WorldValue). w.faults) world) (log-after run stands) (ap (λ (w : WorldValue). w.size) world ∙ stands.size)
-              (follows ∙ ap (λ f. follow && f) stands.followed_is) (λ yes. stands.pages (and_parts follow run.followed yes).1) (still-served run.drive happens follow run.followed (last_image run.images) safe stands.servable);
+              (follows ∙ ap (λ f. follow && f) stands.followed_is) (λ both_so. stands.pages (and_parts follow run.followed both_so).1) (still-served run.drive happens follow run.followed (last_image run.images) safe stands.servable);
           goes = goes run;
           printed = sym (append-nil out);
         })
@@ -167,7 +167,7 @@ module _ (before after : WorldValue) (folder folder_after : MemoryTree) (kept ke
         next = next;
         text = [];
         stands =
-            stands-on run next stands refl refl refl (ap (λ (w : WorldValue). w.faults) world) (ap (λ (w : WorldValue). w.log) world ∙ stands.drive) (ap (λ (w : WorldValue). w.size) world) follows (λ yes. absurd (cc yes)) (λ yes. absurd (cc yes));
+            stands-on run next stands refl refl refl (ap (λ (w : WorldValue). w.faults) world) (ap (λ (w : WorldValue). w.log) world ∙ stands.drive) (ap (λ (w : WorldValue). w.size) world) follows (λ both_so. absurd (cc both_so)) (λ both_so. absurd (cc both_so));
         goes = (refl, refl);
         printed = sym (append-nil out);
       })

@@ -84,7 +84,7 @@ module _ (before after : WorldValue) (folder folder_after : MemoryTree) (kept ke
     no_tree_faults = local.no_faults stands.alone ∙ stands.no_tree_faults;
     no_keeper_faults = images.no_faults stands.steady ∙ stands.no_keeper_faults;
     pages = stands.pages;
-    servable = λ yes. grows.syncs.stays_servable own (stands.servable yes);
+    servable = λ is_so. grows.syncs.stays_servable own (stands.servable is_so);
   }
 
   synced : (ended ≡ ends.Memory → ⊥) → Synced run next ended

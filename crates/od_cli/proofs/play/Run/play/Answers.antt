@@ -1,4 +1,4 @@
-use Rattle.std.proofs.Common.{◌≡◌, ◌×◌, ◌++◌, ◌∷◌, [], ◌&&◌, true, false, List, length, drop, Some, None, inl, inr, ap, ◌∙◌, refl, sym}
+use Rattle.std.proofs.Common.{◌≡◌, ◌++◌, ◌∷◌, [], ◌&&◌, true, false, List, length, drop, Some, None, inl, inr, ap, ◌∙◌, refl, sym}
 use Rattle.od_tree.specs.Memory as tree
 use Rattle.od_tree.specs.declared.step.LocalStep.{LocalStep}
 use Rattle.gd_item.specs.Sessions.{held}
@@ -72,9 +72,9 @@ returns-in_ok-print_requests-in-Requests-clause-plays c =
 pub returns-in-Expire-clause-plays : goal.returns-in-Expire-clause-plays
 returns-in-Expire-clause-plays c =
     let self = c.args.self.now in
-    let after = c.event-in-Expire.new.self in
-    ok-gives c.event-in-Expire.result ((after.world ≡ record self.world { log = self.world.log ++ Event (event.Expire c.in-Expire.number) ∷ [] }) × (after.folder ≡ self.folder) × (after.keeper ≡ self.keeper) × (after.counted ≡ self.counted) × (after.followed ≡ (false && self.followed)))
-    ((value : Run) → StandsFor self.world self.folder self.keeper self.counted self.followed value → PlaysTo after.world after.folder after.keeper after.counted after.followed value c.args.line.now c.args.out.now c.args.out.now) c.event-in-Expire.ensures
+    let after = c.event.new.self in
+    ok-gives c.event.result ((after.world ≡ record self.world { log = self.world.log ++ Event (event.Expire c.in-Expire.number) ∷ [] }) × (after.folder ≡ self.folder) × (after.keeper ≡ self.keeper) × (after.counted ≡ self.counted) × (after.followed ≡ (false && self.followed)))
+    ((value : Run) → StandsFor self.world self.folder self.keeper self.counted self.followed value → PlaysTo after.world after.folder after.keeper after.counted after.followed value c.args.line.now c.args.out.now c.args.out.now) c.event.ensures
     (λ befell. event-leads self.world after.world self.folder after.folder self.keeper after.keeper self.counted after.counted self.followed after.followed c.args.out.now befell.1 befell.2 befell.3 (Expire c.in-Expire.number) c.args.line.now (event.Expire c.in-Expire.number) c.in-Expire.is befell.0 false befell.4 (inr refl) (λ run. (refl, refl)))
 
 pub returns-in-Restore-clause-plays : goal.returns-in-Restore-clause-plays
