@@ -1,5 +1,5 @@
 -- Another client's request, and what it prints.
-use Rattle.std.proofs.Common.{◌≡◌, ℕ, List, ◌++◌, Option, Some, None, Result, Ok, Err, OnOk, sym, ap, ◌∙◌, append-nil}
+use Rattle.std.proofs.Common.{◌≡◌, ℕ, List, ◌++◌, Some, None, Result, Ok, Err, OnOk, sym, ap, ◌∙◌, append-nil}
 use Rattle.gd_item.specs.Answers.{answer}
 use Rattle.gd_item.specs.Sessions.{held}
 use Rattle.gd_item.specs.Steps.{state_of}

@@ -5,8 +5,7 @@ use Rattle.std.specs.List.{list_all}
 use Rattle.gd_item.specs.declared.request.Request.{Request}
 use Rattle.gd_item.specs.declared.step.Step.{Step}
 use Rattle.gd_item.specs.declared.step.DriveEvent.{DriveEvent}
-use Rattle.gd_item.specs.declared.step.Step.TheVariants.{Ask, Event}
-use Rattle.gd_item.specs.declared.step.Who.TheVariants.{Other}
+use Rattle.gd_item.specs.declared.step.Step.TheVariants.{Event}
 use Rattle.od_keeper.specs.Keeping.{last_image}
 use Rattle.od_keeper.specs.Memory as keeper
 use Rattle.od_keeper.specs.declared.image.Image.{Image}
@@ -17,7 +16,6 @@ use Rattle.od_tree.specs.declared.memory.MemoryTree.{MemoryTree}
 use Rattle.od_tree.specs.declared.step.LocalStep.{LocalStep}
 use Rattle.gd_laws.specs.Served.{is_token_safe}
 use Rattle.gd_laws.proofs.Tokens.{served-stays}
-use Rattle.od_cli.specs.Following.{can_follow}
 use Rattle.od_cli.specs.Played.{line_steps, line_text, request_steps}
 use Rattle.od_cli.specs.Plays.{Plays}
 use Rattle.od_cli.specs.Pulling.{others_steps}
@@ -25,7 +23,7 @@ use Rattle.od_cli.specs.Runs.{Run, Goes, local_text, requests_text}
 use Rattle.od_cli.specs.RunStates.{PlaysTo, StandsFor}
 use Rattle.od_cli.specs.Worlds.{WorldValue, page_size}
 use Rattle.od_cli.specs.declared.line.Line.{Line}
-use Rattle.od_cli.specs.declared.line.Line.TheVariants.{Expire, Restore, EndSession, Page, Local, Requests}
+use Rattle.od_cli.specs.declared.line.Line.TheVariants.{Page, Local, Requests}
 
 -- what a request adds leaves a token served
 pub request-safe : (asked : Option Request) → list_all is_token_safe (request_steps asked) ≡ true

@@ -1,14 +1,14 @@
 -- The pages of a pull that no one disturbs have the feed, one after the other.
-use Rattle.std.proofs.Common.{◌≡◌, ◌⊎◌, inl, inr, ℕ, ◌-◌, ◌^◌, ◌<◌, ◌≤◌, zero, suc, Bool, true, false, cond, nat_lt, List, [], ◌∷◌, ◌++◌, length, take, map, slice_index, IsSome, Option, Some, None, refl, ap, sym, subst, ◌∙◌, append_assoc, append-nil, arith}
+use Rattle.std.proofs.Common.{◌≡◌, inl, inr, ℕ, ◌-◌, ◌^◌, ◌<◌, ◌≤◌, zero, suc, Bool, true, false, cond, nat_lt, List, [], ◌∷◌, ◌++◌, length, take, map, slice_index, IsSome, Option, Some, None, refl, ap, sym, subst, ◌∙◌, append_assoc, append-nil, arith}
 use Rattle.std.proofs.lemmas.Bool.{ltb-true}
 use Rattle.std.specs.List.{All, AllByRecursion, Any}
 use Rattle.std.specs.Map.{keys_of, values_of}
 use Rattle.gd_item.specs.Answers.{answer, answer_of, bare_item}
 use Rattle.gd_item.specs.Pages.{page_link}
-use Rattle.gd_item.specs.Records.{record_of, deleted_record, feed, first_of, last_of}
+use Rattle.gd_item.specs.Records.{record_of, deleted_record, feed, last_of}
 use Rattle.gd_item.specs.Sessions.{State, held}
 use Rattle.gd_item.specs.Sound.{IsWithin}
-use Rattle.gd_item.specs.Steps.{state_of, number_of}
+use Rattle.gd_item.specs.Steps.{state_of}
 use Rattle.gd_item.specs.Tokens.{token_text}
 use Rattle.gd_item.specs.declared.item.Item.{Item}
 use Rattle.gd_item.specs.declared.live.LiveItem.{LiveItem}

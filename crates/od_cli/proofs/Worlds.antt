@@ -1,5 +1,5 @@
 -- What the world's drive replies to this client.
-use Rattle.std.proofs.Common.{◌≡◌, ℕ, ◌+◌, ◌^◌, ◌≤◌, min, Bool, true, false, cond, ◌-◌, List, [], ◌∷◌, ◌++◌, Option, Some, None, Result, Ok, append-nil, inl, inr, refl, sym, ap, ◌∙◌, subst, arith}
+use Rattle.std.proofs.Common.{◌≡◌, ℕ, ◌+◌, ◌^◌, ◌≤◌, min, Bool, true, false, cond, ◌-◌, List, [], ◌∷◌, ◌++◌, Option, Some, None, Result, Ok, append-nil, inl, inr, refl, sym, ap, ◌∙◌, subst}
 use Rattle.gd_item.specs.Answers.{answer, about, answer_unless, content_reply, delta_reply, found_reply, shown}
 use Rattle.gd_item.specs.Inventory.{Effect, Inventory, live_at}
 use Rattle.gd_item.specs.Pages.{Asked, Past, Latest, Bad, Lost, asked, is_bad, latest_page, page_past}
@@ -8,7 +8,7 @@ use Rattle.gd_item.specs.Replies.{has_status}
 use Rattle.gd_item.specs.Refused.{Refusal, at_target, by_store, refuse, refusal}
 use Rattle.gd_item.specs.Refusals.{file_refusal, missing}
 use Rattle.gd_item.specs.Sessions.{State, held, new_state}
-use Rattle.gd_item.specs.Steps.{after_event, after_request, after_step, held_by, is_accepted, state_of}
+use Rattle.gd_item.specs.Steps.{after_event, after_request, after_step, is_accepted, state_of}
 use Rattle.gd_item.specs.Targets.{target_of}
 use Rattle.gd_item.specs.Versions.{version_at}
 use Rattle.gd_item.specs.declared.fault.ErrorCode.TheVariants.{InvalidRequest}

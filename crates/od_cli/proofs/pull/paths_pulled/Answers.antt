@@ -1,5 +1,4 @@
-use Rattle.std.proofs.Common.{Err, ap, ◌∙◌}
-use Rattle.od_mirror.specs.Pulled.{paths_of}
+use Rattle.std.proofs.Common.{Err, ap}
 use Rattle.od_cli.proofs.Pulls.{never-bad-pull}
 use Rattle.od_cli.proofs.pull.paths_pulled.Goals as goal
 

@@ -1,8 +1,5 @@
-use Rattle.std.proofs.Common.{◌≡◌, ◌++◌, true, false, codes, sym, subst, ap, ◌∙◌}
-use Rattle.gd_item.specs.Inventory.{Effect}
+use Rattle.std.proofs.Common.{true, false, sym, subst, ap, ◌∙◌}
 use Rattle.gd_item.specs.Sessions.{State}
-use Rattle.gd_item.specs.Steps.{held_by, state_of}
-use Rattle.od_cli.specs.Played.{pulled_text}
 use Rattle.od_cli.specs.Plays.{Plays}
 use Rattle.od_cli.specs.Pulling.{TakesPages}
 use Rattle.od_cli.specs.Worlds.{Holds}

@@ -1,4 +1,4 @@
-use Rattle.std.proofs.Common.{sym, ◌∙◌}
+use Rattle.std.proofs.Common.{◌∙◌}
 use Rattle.od_cli.proofs.Pages.{page-came, takes}
 use Rattle.od_cli.proofs.pull.take_reply.Goals as goal
 

@@ -1,4 +1,4 @@
-use Rattle.std.proofs.Common.{◌≡◌, ◌++◌, ◌∷◌, [], ◌&&◌, true, false, List, length, drop, Some, None, inl, inr, ap, ◌∙◌, refl, sym}
+use Rattle.std.proofs.Common.{◌≡◌, ◌++◌, ◌∷◌, [], ◌&&◌, true, false, List, length, drop, Some, None, inl, inr, ap, ◌∙◌, refl}
 use Rattle.od_tree.specs.Memory as tree
 use Rattle.od_tree.specs.declared.step.LocalStep.{LocalStep}
 use Rattle.gd_item.specs.Sessions.{held}
@@ -12,7 +12,7 @@ use Rattle.od_cli.specs.Pulling.{asks_from, most_replies}
 use Rattle.od_cli.specs.Runs.{Run, local_text}
 use Rattle.od_cli.specs.RunStates.{PlaysTo, StandsFor}
 use Rattle.od_cli.specs.declared.line.Line.{Line}
-use Rattle.od_cli.specs.declared.line.Line.TheVariants.{OtherPut, OtherMakeFolder, OtherMove, OtherRemove, Expire, Restore, EndSession, Page, Pull}
+use Rattle.od_cli.specs.declared.line.Line.TheVariants.{OtherPut, OtherMakeFolder, OtherMove, OtherRemove, Expire, Restore, EndSession, Pull}
 use Rattle.od_cli.proofs.Asking.{ok-gives}
 use Rattle.od_cli.proofs.Leading.{event-leads, local-leads, other-leads, others-safe, page-leads, request-safe, requests-lead}
 use Rattle.od_cli.proofs.play.Run.play.Goals as goal
