@@ -159,7 +159,8 @@ impl Run {
     /// Syncs the folder with the drive, and prints how that ended.
     fn sync(&mut self, alloc: Global, out: &mut Bytes) -> Result<(), NoMemory>
         requires { self.old.followed ≡ true }
-        ensures { OnOk result ((value : runs.Run) → StandsFor self.old.world self.old.folder self.old.keeper self.old.counted self.old.followed value
+        ensures followed { self.new.followed ≡ self.old.followed }
+        ensures plays { OnOk result ((value : runs.Run) → StandsFor self.old.world self.old.folder self.old.keeper self.old.counted self.old.followed value
             → PlaysTo self.new.world self.new.folder self.new.keeper self.new.counted self.new.followed value Line.Sync out.old out.new) }
     {
         let end = sync_now(alloc, &mut self.world, &mut self.folder, &mut self.keeper);

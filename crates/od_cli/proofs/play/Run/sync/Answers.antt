@@ -6,8 +6,8 @@ use Rattle.od_cli.proofs.Asking.{ok-gives}
 use Rattle.od_cli.proofs.Syncing.{sync-plays}
 use Rattle.od_cli.proofs.play.Run.sync.Goals as goal
 
-pub returns-in_default : goal.returns-in_default
-returns-in_default c =
+pub returns-in_default-clause-plays : goal.returns-in_default-clause-plays
+returns-in_default-clause-plays c =
     let self = c.args.self.now in
     let after = c.sync_now.new in
     let left = c.set_page.new.self in
