@@ -1,9 +1,14 @@
+mod compared;
 mod drives;
 mod files;
 mod folders;
+mod fragments;
 mod items;
+mod limits;
 mod moves;
 mod names;
+mod openings;
+mod plain;
 mod reads;
 mod requests;
 mod sessions;

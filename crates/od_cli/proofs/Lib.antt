@@ -4,6 +4,7 @@ pub mod Leading
 pub mod Listed
 pub mod Moves
 pub mod Numbers
+pub mod Pages
 pub mod Playing
 pub mod Prints
 pub mod Pulls

@@ -1,5 +1,5 @@
 -- The items of a pull print as the drive's tree does.
-use Rattle.std.proofs.Common.{◌≡◌, ℕ, ◌+◌, List, [], ◌∷◌, ◌++◌, codes, length, Option, Some, None, refl, sym, ap, ◌∙◌, append_assoc}
+use Rattle.std.proofs.Common.{◌≡◌, ℕ, ◌+◌, Bool, false, cond, List, [], ◌∷◌, ◌++◌, codes, length, Option, Some, None, refl, sym, ap, ◌∙◌, append_assoc}
 use Rattle.std.specs.Fmt.{decimal}
 use Rattle.std.specs.List.{flat_map}
 use Rattle.gd_names.specs.Ordered.{in_order}
@@ -14,17 +14,18 @@ use Rattle.gd_store.specs.Stands.{StoreValue}
 use Rattle.std.specs.Map.{values_of}
 use Rattle.gd_item.specs.Records.{records_of}
 use Rattle.gd_laws.specs.Placed.{placed_items}
-use Rattle.od_mirror.specs.Pulled.{paths_of, with_records}
+use Rattle.od_mirror.specs.Pulled.{Pulled, paths_of, with_records}
 use Rattle.gd_names.proofs.Mapped.{mapped}
 use Rattle.od_mirror.proofs.Standing.{paths-of-placed, tree-of-placed}
-use Rattle.od_cli.specs.Played.{entry_line, pull_text}
+use Rattle.od_cli.specs.Played.{entry_line, pulled_text}
 use Rattle.od_cli.specs.Pulled.{item_line, kind_line, whole_items}
 use Rattle.gd_item.specs.Steps.{state_of, held_by}
-use Rattle.gd_item.specs.declared.request.Request.TheVariants.{Delta}
+use Rattle.gd_item.specs.declared.step.Step.{Step}
 use Rattle.od_cli.specs.Plays.{Plays}
-use Rattle.od_cli.specs.Worlds.{WorldValue, with_other, Holds}
+use Rattle.od_cli.specs.Pulling.{HasAll, TakesPages}
+use Rattle.od_cli.specs.Worlds.{WorldValue, Holds}
 use Rattle.od_cli.specs.declared.line.Line.TheVariants.{Pull}
-use Rattle.od_cli.proofs.Pulls.{sound-of, records-are}
+use Rattle.od_cli.proofs.Pulls.{all-are, sound-of, records-are}
 
 -- an item prints as its entry does
 same-line : (path : List (List ℕ)) (bytes : Option (List ℕ)) (number : ℕ) (items : List LiveItem) → kind_line path (size_of bytes) (kind_at bytes number items) ≡ entry_line (path, bytes)
@@ -45,7 +46,7 @@ tree-lines held sound =
 
 -- a pull prints the drive's number and its tree
 pub pull-printed : (value : StoreValue) (log : List Effect) (page : List Item) (paths : List (List (List ℕ) × Item)) (number : ℕ) (old first new : List ℕ) → Holds value log → page ≡ whole_items (inventory log)
-    → paths ≡ paths_of (values_of (with_records [] page)) → number ≡ length log + 1 → first ≡ old ++ (codes "pull" ++ codes " " ++ decimal number ++ codes "\n") → new ≡ first ++ flat_map item_line paths → new ≡ old ++ pull_text (inventory log)
+    → paths ≡ paths_of (values_of (with_records [] page)) → number ≡ length log + 1 → first ≡ old ++ (codes "pull" ++ codes " " ++ decimal number ++ codes "\n") → new ≡ first ++ flat_map item_line paths → new ≡ old ++ pulled_text (inventory log)
 pull-printed value log page paths number old first new stands is are own begins ends =
     let named : number ≡ (inventory log).number = own ∙ sym (number-inventory log) in
     let all : paths ≡ paths_of (records_of (inventory log)) = are ∙ ap paths_of (records-are page value log stands is) in
@@ -55,14 +56,18 @@ pull-printed value log page paths number old first new stands is are own begins 
     ∙ append_assoc old (codes "pull " ++ decimal (inventory log).number ++ codes "\n") (flat_map item_line paths)
     ∙ ap (λ l. old ++ ((codes "pull " ++ decimal (inventory log).number ++ codes "\n") ++ l)) lines
 
+-- so does one that has ended
+pub pulled-printed : (log : List Step) (pulled : Pulled) (value : StoreValue) (paths slice : List (List (List ℕ) × Item)) (number : ℕ) (old first new : List ℕ) → HasAll (state_of log) pulled → (state_of log).plain ≡ false
+    → Holds value (state_of log).effects → paths ≡ paths_of (values_of pulled.items) → slice ≡ paths → number ≡ length (state_of log).effects + 1
+    → first ≡ old ++ (codes "pull" ++ codes " " ++ decimal number ++ codes "\n") → new ≡ first ++ flat_map item_line slice → new ≡ old ++ pulled_text (held_by log)
+pulled-printed log pulled value paths slice number old first new all whole stands are same is begins ends =
+    pull-printed value (state_of log).effects (whole_items (held_by log)) paths number old first new stands refl (are ∙ ap paths_of (all-are log pulled all whole)) is begins
+    (ends ∙ ap (λ (xs : List (List (List ℕ) × Item)). first ++ flat_map item_line xs) same)
+
 -- so the line was played
-pub pull-plays : (before after : WorldValue) (value : StoreValue) (old first new : List ℕ) (page : List Item) (paths slice : List (List (List ℕ) × Item)) (number : ℕ) → Holds value (state_of before.log).effects
-    → ((effects : List Effect) → Holds value effects → number ≡ length effects + 1) → page ≡ whole_items (held_by before.log) → after ≡ record before { log = with_other before.log (Delta None) }
-    → paths ≡ paths_of (values_of (with_records [] page)) → slice ≡ paths → first ≡ old ++ (codes "pull" ++ codes " " ++ decimal number ++ codes "\n") → new ≡ first ++ flat_map item_line slice → Plays before after old new Pull
-pull-plays before after value old first new page paths slice number stands named items asked are same begins ends = record {
-  world = asked;
-  printed =
-      let effects : List Effect = (state_of before.log).effects in
-      pull-printed value effects page paths number old first new stands items are (named effects stands) begins
-      (ends ∙ ap (λ (xs : List (List (List ℕ) × Item)). first ++ flat_map item_line xs) same);
+pub pull-plays : (before after : WorldValue) (pulled : Pulled) (ended : Bool) (old new : List ℕ) → TakesPages before after pulled ended → new ≡ old ++ cond ended (pulled_text (held_by before.log)) (codes "pull Endless\n")
+    → Plays before after old new Pull
+pull-plays before after pulled ended old new takes printed = record {
+  world = takes.world;
+  printed = printed ∙ ap (λ b. old ++ cond b (pulled_text (held_by before.log)) (codes "pull Endless\n")) takes.ended_is;
 }

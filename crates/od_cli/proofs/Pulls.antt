@@ -1,5 +1,5 @@
 -- A fresh pull gives what the drive holds.
-use Rattle.std.proofs.Common.{◌≡◌, ℕ, ◌+◌, ◌-◌, ◌≤◌, max, true, false, nat_lt, List, [], length, slice_index, Option, Some, None, refl, sym, ap, ◌∙◌, subst, arith}
+use Rattle.std.proofs.Common.{◌≡◌, ℕ, ◌+◌, ◌-◌, ◌≤◌, max, true, false, nat_lt, List, [], length, slice_index, Option, None, sym, ap, ◌∙◌, subst, arith}
 use Rattle.std.specs.Map.{keys_of, values_of}
 use Rattle.gd_item.specs.Inventory.{Inventory, Effect, inventory}
 use Rattle.gd_item.specs.Records.{feed, first_of, last_of}
@@ -7,14 +7,11 @@ use Rattle.gd_item.specs.Sound.{IsItemMap, IsWithin}
 use Rattle.gd_item.specs.Steps.{state_of, held_by}
 use Rattle.gd_item.specs.declared.item.Item.{Item}
 use Rattle.gd_item.specs.declared.reply.Page.{Page}
-use Rattle.gd_item.specs.declared.reply.PageLink.{PageLink}
-use Rattle.gd_item.specs.declared.reply.PageLink.TheVariants as link
 use Rattle.gd_item.specs.declared.step.Step.{Step}
 use Rattle.gd_item.proofs.Effects.{number-inventory}
-use Rattle.gd_delta.specs.Served.{is_last}
+use Rattle.gd_laws.specs.Served.{shown_items}
 use Rattle.gd_laws.proofs.Logs.{sound-log}
 use Rattle.gd_names.proofs.Small.{not-below, none-given}
-use Rattle.gd_item.specs.Pages.{page_link, page_past}
 use Rattle.std.proofs.Math.Nat.{le-max_right}
 use Rattle.std.proofs.lemmas.List.{take_all}
 use Rattle.std.proofs.lemmas.List.Elements.{All-weaker}
@@ -27,6 +24,7 @@ use Rattle.od_mirror.specs.declared.mirror.Taken.TheVariants.{Last}
 use Rattle.od_mirror.proofs.Pulling.{feed-gives-all, link-items}
 use Rattle.od_mirror.proofs.Standing.{records-fit}
 use Rattle.od_cli.specs.Pulled.{whole_items, IsWhole}
+use Rattle.od_cli.specs.Pulling.{HasAll}
 use Rattle.od_cli.specs.Worlds.{Holds}
 
 -- where no more follow all were given
@@ -91,22 +89,17 @@ never-bad page after number whole is bad =
     let yes : is_bad (nodes (values_of after.items)) number ≡ true = bad.bad in
     cc (yes, here, fit)
 
--- the page that a drive gives where no token is sent
-last-none : (epoch start number : ℕ) (more : Option ℕ) → is_last (page_link epoch start number more) ≡ true → more ≡ None
-last-none epoch start number None last = refl
-last-none epoch start number (Some last) is = absurd cc
+-- a pull that has ended gives what the drive holds
+pub all-are : (log : List Step) (pulled : Pulled) → HasAll (state_of log) pulled → (state_of log).plain ≡ false → values_of pulled.items ≡ values_of (with_records [] (whole_items (held_by log)))
+all-are log pulled all whole =
+    ap values_of all.items_are ∙ ap (λ b. values_of (with_records [] (shown_items b (whole_items (held_by log))))) whole
 
-taken-last : (l : PageLink) → is_last l ≡ true → taken_of l ≡ Last
-taken-last (link.Next token) last = absurd cc
-taken-last (link.Delta token) last = refl
-
-pub page-items : (log : List Step) (size : ℕ) (page : Page) → page ≡ page_past (state_of log) 0 (held_by log).number size → is_last page.link ≡ true → page.items ≡ whole_items (held_by log)
-page-items log size page is last =
-    let changes : List (ℕ × Item) = feed (held_by log) 0 (held_by log).number in
-    let none : last_of size changes ≡ None =
-    last-none (state_of log).epoch (held_by log).number (held_by log).number (last_of size changes) (sym (ap (λ (p : Page). is_last p.link) is) ∙ last) in
-    ap (λ (p : Page). p.items) is ∙ all-given size changes none
-
-pub page-whole : (log : List Step) (size : ℕ) (page : Page) → page ≡ page_past (state_of log) 0 (held_by log).number size → is_last page.link ≡ true → IsWhole page
-page-whole log size page is last =
-    record { effects = (state_of log).effects; sound = sound-log log; items = page-items log size page is last; last = taken-last page.link last }
+-- and is never bad
+pub never-bad-pull : (log : List Step) (pulled : Pulled) (number : ℕ) → HasAll (state_of log) pulled → (state_of log).plain ≡ false → IsLeastBad (nodes (values_of pulled.items)) number → ⊥
+never-bad-pull log pulled number all whole bad =
+    let drive : Inventory = held_by log in
+    let gives : values_of pulled.items ≡ records_of drive = all-are log pulled all whole ∙ feed-gives-all drive (sound-log log) (is-marked (state_of log).effects) drive.number in
+    let fit : is_bad (nodes (records_of drive)) number ≡ false = records-fit drive (sound-log log) number in
+    let here : is_bad (nodes (values_of pulled.items)) number ≡ is_bad (nodes (records_of drive)) number = ap (λ (xs : List Item). is_bad (nodes xs) number) gives in
+    let yes : is_bad (nodes (values_of pulled.items)) number ≡ true = bad.bad in
+    cc (yes, here, fit)

@@ -1,5 +1,5 @@
 -- A sync leads a run on.
-use Rattle.std.proofs.Common.{◌≡◌, ℕ, true, List, ◌++◌, Option, Some, refl, ap, ◌∙◌, subst}
+use Rattle.std.proofs.Common.{◌≡◌, ℕ, Bool, true, List, ◌++◌, Option, Some, refl, sym, ap, ◌∙◌, subst}
 use Rattle.std.proofs.lemmas.List.{append_cancel_left}
 use Rattle.gd_item.specs.declared.step.Step.{Step}
 use Rattle.od_keeper.specs.Memory as keeper
@@ -18,7 +18,7 @@ use Rattle.od_sync.specs.declared.ends.SyncEnd.{SyncEnd}
 use Rattle.od_sync.specs.declared.ends.SyncEnd.TheVariants as ends
 use Rattle.od_cli.specs.Runs.{Run, Synced, sync_text}
 use Rattle.od_cli.specs.RunStates.{PlaysTo, StandsFor}
-use Rattle.od_cli.specs.Worlds.{WorldValue}
+use Rattle.od_cli.specs.Worlds.{WorldValue, page_size}
 use Rattle.od_cli.specs.declared.line.Line.TheVariants.{Sync}
 
 -- the part by which the log grew is that of the sync
@@ -45,7 +45,7 @@ module _ (before after : WorldValue) (folder folder_after : MemoryTree) (kept ke
     (remote : remote_alone.Undisturbed true true (Some before.log) (Some after.log)) (no_faults : true ≡ true → StartsServable (Some before.log) (keeper.images_of kept) → after.faults ≡ before.faults)
     (local : tree_alone.Undisturbed (tree.is_undisturbed folder) (tree.is_undisturbed folder_after) (tree.faults_of folder) (tree.faults_of folder_after) (tree.log_of folder) (tree.log_of folder_after))
     (images : keeper_alone.Undisturbed (keeper.is_undisturbed kept) (keeper.is_undisturbed kept_after) (keeper.faults_of kept) (keeper.faults_of kept_after))
-    (counted : ℕ) (run : Run) (stands : StandsFor before folder kept counted run) where
+    (counted : ℕ) (followed : Bool) (follows : followed ≡ true) (run : Run) (stands : StandsFor before folder kept counted followed run) where
   abbrev grows : SyncsTo (counts before.faults before.answers before.in_row (tree.faults_of folder) (keeper.faults_of kept)) (counts after.faults after.answers after.in_row (tree.faults_of folder_after) (keeper.faults_of kept_after))
       run.drive run.local run.images (Some after.log) (tree.log_of folder_after) (keeper.images_of kept_after) ended
   grows = told.told run.drive run.local run.images (ap (λ (l : List Step). Some l) stands.drive) stands.local stands.images
@@ -59,14 +59,22 @@ module _ (before after : WorldValue) (folder folder_after : MemoryTree) (kept ke
   abbrev next : Run
   next = record run { drive = run.drive ++ grows.more; local = run.local ++ grows.part; images = run.images ++ grows.added }
 
+  run-followed : run.followed ≡ true
+  run-followed = sym stands.followed_is ∙ follows
+
   no-more-faults : after.faults ≡ 0
   no-more-faults =
-      no_faults refl (record { log = run.drive; committed = run.images; log_is = ap (λ (l : List Step). Some l) stands.drive; committed_is = stands.images; servable = stands.servable })
+      no_faults refl (record { log = run.drive; committed = run.images; log_is = ap (λ (l : List Step). Some l) stands.drive; committed_is = stands.images; servable = stands.servable run-followed })
       ∙ stands.no_link_faults
 
-  stands-after : StandsFor after folder_after kept_after counted next
+  abbrev last : WorldValue
+  last = record after { size = page_size }
+
+  stands-after : StandsFor last folder_after kept_after counted followed next
   stands-after = record {
     drive = let same : after.log ≡ run.drive ++ grows.more = cc grows.drive_grown in same;
+    size = sym (stands.pages run-followed);
+    followed_is = stands.followed_is;
     local = grows.local_grown;
     images = grows.images_grown;
     counted_is = stands.counted_is;
@@ -75,7 +83,8 @@ module _ (before after : WorldValue) (folder folder_after : MemoryTree) (kept ke
     no_link_faults = no-more-faults;
     no_tree_faults = local.no_faults stands.alone ∙ stands.no_tree_faults;
     no_keeper_faults = images.no_faults stands.steady ∙ stands.no_keeper_faults;
-    servable = grows.syncs.stays_servable own stands.servable;
+    pages = stands.pages;
+    servable = λ is_so. grows.syncs.stays_servable own (stands.servable is_so);
   }
 
   synced : (ended ≡ ends.Memory → ⊥) → Synced run next ended
@@ -96,5 +105,7 @@ module _ (before after : WorldValue) (folder folder_after : MemoryTree) (kept ke
     goes_on = goes_on;
   }
 
-  pub sync-plays : (old new : List ℕ) → (ended ≡ ends.Memory → ⊥) → new ≡ old ++ sync_text ended → PlaysTo after folder_after kept_after counted run Sync old new
-  sync-plays old new goes_on printed = record { next = next; text = sync_text ended; stands = stands-after; goes = (ended, synced goes_on, refl); printed = printed }
+  pub sync-plays : (left : WorldValue) (old new : List ℕ) → left ≡ last → (ended ≡ ends.Memory → ⊥) → new ≡ old ++ sync_text ended → PlaysTo left folder_after kept_after counted followed run Sync old new
+  sync-plays left old new is goes_on printed =
+      let P : WorldValue → Type 0 = λ w. PlaysTo w folder_after kept_after counted followed run Sync old new in
+      subst P (sym is) (record { next = next; text = sync_text ended; stands = stands-after; goes = (run-followed, ended, synced goes_on, refl); printed = printed })

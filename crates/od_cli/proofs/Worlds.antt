@@ -1,5 +1,5 @@
 -- What the world's drive replies to this client.
-use Rattle.std.proofs.Common.{◌≡◌, ℕ, ◌+◌, ◌^◌, ◌≤◌, min, Bool, true, false, cond, ◌-◌, List, [], ◌∷◌, ◌++◌, Option, Some, None, Result, Ok, append-nil, inl, inr, refl, sym, ap, ◌∙◌, subst, arith}
+use Rattle.std.proofs.Common.{◌≡◌, ℕ, ◌+◌, ◌^◌, ◌≤◌, min, Bool, true, false, cond, ◌-◌, List, [], ◌∷◌, ◌++◌, Option, Some, None, Result, Ok, append-nil, inl, inr, refl, sym, ap, ◌∙◌, subst}
 use Rattle.gd_item.specs.Answers.{answer, about, answer_unless, content_reply, delta_reply, found_reply, shown}
 use Rattle.gd_item.specs.Inventory.{Effect, Inventory, live_at}
 use Rattle.gd_item.specs.Pages.{Asked, Past, Latest, Bad, Lost, asked, is_bad, latest_page, page_past}
@@ -8,7 +8,7 @@ use Rattle.gd_item.specs.Replies.{has_status}
 use Rattle.gd_item.specs.Refused.{Refusal, at_target, by_store, refuse, refusal}
 use Rattle.gd_item.specs.Refusals.{file_refusal, missing}
 use Rattle.gd_item.specs.Sessions.{State, held, new_state}
-use Rattle.gd_item.specs.Steps.{after_request, after_step, held_by, is_accepted, state_of}
+use Rattle.gd_item.specs.Steps.{after_event, after_request, after_step, is_accepted, state_of}
 use Rattle.gd_item.specs.Targets.{target_of}
 use Rattle.gd_item.specs.Versions.{version_at}
 use Rattle.gd_item.specs.declared.fault.ErrorCode.TheVariants.{InvalidRequest}
@@ -25,9 +25,12 @@ use Rattle.gd_item.specs.declared.reply.Reply.TheVariants as reply
 use Rattle.gd_item.specs.declared.request.Request.{Request}
 use Rattle.gd_item.specs.declared.request.Request.TheVariants.{Content, Download, OpenSession, Fragment, SessionStatus, CancelSession, Finish, Delta}
 use Rattle.gd_item.specs.declared.step.Step.{Step}
-use Rattle.gd_item.specs.declared.step.Step.TheVariants.{Ask}
+use Rattle.gd_item.specs.declared.step.DriveEvent.{DriveEvent}
+use Rattle.gd_item.specs.declared.step.DriveEvent.TheVariants as event
+use Rattle.gd_item.specs.declared.step.Step.TheVariants.{Ask, Event}
 use Rattle.gd_item.specs.declared.step.Who.{Who}
 use Rattle.gd_item.specs.declared.step.Who.TheVariants.{Own}
+use Rattle.gd_api.specs.Drives as api
 use Rattle.gd_api.specs.Drives.{DriveValue, Has, Stands, Handles, is_refusal}
 use Rattle.gd_store.specs.Stands.{StoreValue, Stands as StandsFor}
 use Rattle.gd_delta.specs.Served.{answer_to, is_last, Serves}
@@ -35,21 +38,21 @@ use Rattle.gd_delta.specs.declared.pages.DeltaFault.{DeltaFault}
 use Rattle.gd_item.proofs.LogsGrow.{after_steps-append}
 use Rattle.od_transfer.specs.Asking.{IsPageSize, is_last_link, may_answer, may_answer_content, may_answer_download}
 use Rattle.od_transfer.specs.Undisturbed.{is_servable}
-use Rattle.od_cli.specs.Worlds.{WorldValue, IsDriveOf, IsOwnReply, heard, is_about_session, is_delta, is_want_of_memory, page_size, unheard}
+use Rattle.od_cli.specs.Worlds.{WorldValue, IsDriveOf, IsOwnReply, heard, is_about_session, is_delta, is_plain_event, is_want_of_memory, unheard}
 
 -- an answer of a drive that is not plain
 unshown : (state : State) (size : ℕ) (request : Request) → state.plain ≡ false → answer state size request ≡ answer_unless (refusal state request) state size request
 unshown state size request whole = ap (λ b. shown b (answer_unless (refusal state request) state size request)) whole
 
 -- a step of a request leaves the drive as plain as it was, and one for changes leaves all as it was
-state-push : (log : List Step) (step : Step) → state_of (log ++ step ∷ []) ≡ after_step (state_of log) step
+pub state-push : (log : List Step) (step : Step) → state_of (log ++ step ∷ []) ≡ after_step (state_of log) step
 state-push log step = after_steps-append new_state log (step ∷ [])
 
 plain-kept : (state : State) (who : Who) (request : Request) (heard : Bool) → (after_step state (Ask who request true heard)).plain ≡ state.plain
 plain-kept state who request heard =
     elim (is_accepted state request true) as (λ b. (cond b (after_request state who request) state).plain ≡ state.plain) [ true ↦ refl | false ↦ refl ]
 
-delta-rests : (state : State) (who : Who) (token : Option (List ℕ)) (heard : Bool) → after_step state (Ask who (Delta token) true heard) ≡ state
+pub delta-rests : (state : State) (who : Who) (token : Option (List ℕ)) (heard : Bool) → after_step state (Ask who (Delta token) true heard) ≡ state
 delta-rests state who token heard =
     elim (is_accepted state (Delta token) true) as (λ b. cond b (after_request state who (Delta token)) state ≡ state)
     [ true ↦ ap (λ (effects : List Effect). record state { effects = effects }) (append-nil state.effects) | false ↦ refl ]
@@ -60,7 +63,7 @@ after-delta drive log now more who token sent step is same copied made grown =
     let at : List Step = log ++ Ask who (Delta token) true true ∷ [] in
     let rests : state_of at ≡ state_of log = state-push log (Ask who (Delta token) true true) ∙ delta-rests (state_of log) who token true in
     let all : more ≡ at = grown ∙ ap (λ (l : List Step). l ++ step ∷ []) same ∙ ap (λ s. log ++ s ∷ []) (made ∙ ap (λ t. Ask who (Delta t) true true) copied) in
-    subst (IsDriveOf drive) (sym all) (record { stands = subst (Has drive) (sym rests) is.stands; size = is.size; plain = ap (λ (state : State). state.plain) rests ∙ is.plain })
+    subst (IsDriveOf drive) (sym all) (record { stands = subst (Has drive) (sym rests) is.stands; plain = ap (λ (state : State). state.plain) rests ∙ is.plain })
 
 -- a page that is given is the drive's answer
 page-reply : (state : State) (size : ℕ) (asks : Asked) (page : Page) → Ok page ≡ answer_to state size asks → (reply.Page page ≡ delta_reply state size asks) × (is_bad asks ≡ false)
@@ -90,16 +93,7 @@ own-page state token size page whole some serves last =
       kind = last-link page.link last;
     }
 
--- the page that is given where no token is sent
-pub fresh-page : (drive : DriveValue) (log : List Step) (lent : StoreValue) (size : ℕ) (page : Page) → IsDriveOf drive log → lent ≡ drive.store
-    → ((state : State) → StandsFor lent state.effects state.epoch state.floor → Serves (answer_to state size (asked state None)) (Ok page)) → page ≡ page_past (state_of log) 0 (held_by log).number size
-fresh-page drive log lent size page is same serves =
-    let state : State = state_of log in
-    let stands : StandsFor lent state.effects state.epoch state.floor = subst (λ s. StandsFor s state.effects state.epoch state.floor) (sym same) is.stands.store in
-    let given : Ok page ≡ Ok (page_past state 0 (held_by log).number size) = given-page (answer_to state size (asked state None)) page (serves state stands) in
-    cc given
-
--- and where one is
+-- the page that is given for a token
 pub delta-reply : (drive : DriveValue) (log : List Step) (lent : StoreValue) (token sent : Option (List ℕ)) (size : ℕ) (page : Page) → IsDriveOf drive log → lent ≡ drive.store → sent ≡ token → 1 ≤ size
     → ((state : State) → StandsFor lent state.effects state.epoch state.floor → Serves (answer_to state size (asked state sent)) (Ok page)) → is_last page.link ≡ true → IsOwnReply (state_of log) (Delta token) (reply.Page page)
 delta-reply drive log lent token sent size page is same copied some serves last =
@@ -152,59 +146,58 @@ download-unless : (state : State) (size : ℕ) (id : ItemId) (version : ℕ) (ca
 download-unless state size id version None has = bytes-kind (version_at id.0 version (held state))
 download-unless state size id version (Some cause) has = has
 
-other-kind : (state : State) (request : Request) (given : Reply) → state.plain ≡ false → is_delta request ≡ false → given ≡ answer state page_size request → may_answer request given ≡ true
-other-kind state (Delta token) given whole other is = absurd (cc other)
-other-kind state (Content at) given whole other is =
-    ap may_answer_content (is ∙ unshown state page_size (Content at) whole)
-    ∙ content-unless state page_size at (refusal state (Content at)) (store-status (at_target (file_refusal (held state)) (target_of (held state) at)))
-other-kind state (Download id version) given whole other is =
-    ap may_answer_download (is ∙ unshown state page_size (Download id version) whole)
-    ∙ download-unless state page_size id version (refusal state (Download id version)) (store-status (missing (version_at id.0 version (held state))))
-other-kind state request given whole other is = refl
+other-kind : (state : State) (size : ℕ) (request : Request) (given : Reply) → state.plain ≡ false → is_delta request ≡ false → given ≡ answer state size request → may_answer request given ≡ true
+other-kind state size (Delta token) given whole other is = absurd (cc other)
+other-kind state size (Content at) given whole other is =
+    ap may_answer_content (is ∙ unshown state size (Content at) whole)
+    ∙ content-unless state size at (refusal state (Content at)) (store-status (at_target (file_refusal (held state)) (target_of (held state) at)))
+other-kind state size (Download id version) given whole other is =
+    ap may_answer_download (is ∙ unshown state size (Download id version) whole)
+    ∙ download-unless state size id version (refusal state (Download id version)) (store-status (missing (version_at id.0 version (held state))))
+other-kind state size request given whole other is = refl
 
-other-reply : (state : State) (request : Request) (given : Reply) → state.plain ≡ false → IsPageSize request page_size → given ≡ answer state page_size request → may_answer request given ≡ true → IsOwnReply state request given
-other-reply state request given whole fits is kind = record { size = page_size; fits = fits; plain = whole; reply_is = is; kind = kind }
+other-reply : (state : State) (size : ℕ) (request : Request) (given : Reply) → state.plain ≡ false → IsPageSize request size → given ≡ answer state size request → may_answer request given ≡ true → IsOwnReply state request given
+other-reply state size request given whole fits is kind = record { size = size; fits = fits; plain = whole; reply_is = is; kind = kind }
 
-fits-size : (request : Request) → is_delta request ≡ false → IsPageSize request page_size
-fits-size (Delta token) other = absurd (cc other)
-fits-size request other = (omega arith, omega arith)
+fits-size : (size : ℕ) (request : Request) → api.IsPageSize size → is_delta request ≡ false → IsPageSize request size
+fits-size size (Delta token) fits other = absurd (cc other)
+fits-size size request fits other = (fits.some, fits.few)
 
-own-reply : (state : State) (request : Request) (given : Reply) → state.plain ≡ false → is_delta request ≡ false → given ≡ answer state page_size request → IsOwnReply state request given
-own-reply state request given whole other is = other-reply state request given whole (fits-size request other) is (other-kind state request given whole other is)
+own-reply : (state : State) (size : ℕ) (request : Request) (given : Reply) → state.plain ≡ false → api.IsPageSize size → is_delta request ≡ false → given ≡ answer state size request → IsOwnReply state request given
+own-reply state size request given whole fits other is = other-reply state size request given whole (fits-size size request fits other) is (other-kind state size request given whole other is)
 
 -- what the drive's call says of a reply that is no want of memory
-pub record IsServed (after : DriveValue) (log : List Step) (request : Request) (given : Reply) : Type 0 where
-  pub reply_is : given ≡ answer (state_of log) page_size request
+pub record IsServed (size : ℕ) (after : DriveValue) (log : List Step) (request : Request) (given : Reply) : Type 0 where
+  pub reply_is : given ≡ answer (state_of log) size request
   pub stands : (who : Who) (heard : Bool) → Stands after (log ++ Ask who request true heard ∷ [])
 
-served-by : (before after : DriveValue) (log : List Step) (request : Request) (given : Reply) → before.size ≡ page_size → Handles before after log request given
-    → is_want_of_memory given ≡ false → IsServed after log request given
-served-by before after log request given size handled memory = elim handled.answered [
-  | inl is ↦ record { reply_is = is.0 ∙ ap (λ n. answer (state_of log) n request) size; stands = is.1 }
+served-by : (before after : DriveValue) (log : List Step) (request : Request) (given : Reply) → Handles before after log request given
+    → is_want_of_memory given ≡ false → IsServed before.size after log request given
+served-by before after log request given handled memory = elim handled.answered [
+  | inl is ↦ record { reply_is = is.0; stands = is.1 }
   | inr is ↦ absurd (let wants : is_want_of_memory given ≡ true = ap is_want_of_memory is.0 in cc)
 ]
 
 module _ (before after : DriveValue) (log : List Step) (request : Request) (given : Reply) (drive : IsDriveOf before log)
     (handled : (log : List Step) → Stands before log → Handles before after log request given) (memory : is_want_of_memory given ≡ false) where
-  pub served : IsServed after log request given
-  served = served-by before after log request given drive.size (handled log drive.stands) memory
+  pub served : IsServed before.size after log request given
+  served = served-by before after log request given (handled log drive.stands) memory
 
   pub replied : is_delta request ≡ false → IsOwnReply (state_of log) request given
-  replied other = own-reply (state_of log) request given drive.plain other served.reply_is
+  replied other = own-reply (state_of log) before.size request given drive.plain drive.stands.size other served.reply_is
 
-  pub one-more : after.size ≡ before.size → (who : Who) → IsDriveOf after (log ++ Ask who request true true ∷ [])
-  one-more size who = record {
+  pub one-more : (who : Who) → IsDriveOf after (log ++ Ask who request true true ∷ [])
+  one-more who = record {
     stands = served.stands who true;
-    size = size ∙ drive.size;
     plain =
         ap (λ (state : State). state.plain) (state-push log (Ask who request true true)) ∙ plain-kept (state_of log) who request true ∙ drive.plain;
   }
 
-  pub logged : after.size ≡ before.size → (who : Who) (now more : List Step) (step : Step) (sent : Request) → now ≡ log → sent ≡ request → step ≡ Ask who sent true true → more ≡ now ++ step ∷ [] → IsDriveOf after more
-  logged size who now more step sent same copied made grown =
+  pub logged : (who : Who) (now more : List Step) (step : Step) (sent : Request) → now ≡ log → sent ≡ request → step ≡ Ask who sent true true → more ≡ now ++ step ∷ [] → IsDriveOf after more
+  logged who now more step sent same copied made grown =
       let all : more ≡ log ++ Ask who request true true ∷ [] =
       grown ∙ ap (λ (l : List Step). l ++ step ∷ []) same ∙ ap (λ s. log ++ s ∷ []) (made ∙ ap (λ r. Ask who r true true) copied) in
-      subst (IsDriveOf after) (sym all) (one-more size who)
+      subst (IsDriveOf after) (sym all) (one-more who)
 
 -- a refusal leaves the drive as it was
 wants-refusal : (given : Reply) → is_want_of_memory given ≡ true → is_refusal given ≡ true
@@ -227,15 +220,32 @@ session-unservable state (Finish session) is = refl
 session-unservable state request is = absurd (cc is)
 
 -- the world after a request with a reply, and after one without
-pub heard-is : (world : WorldValue) (log now more : List Step) (faults answers counted in_row : ℕ) (sent request : Request) → record { log = log; faults = faults; answers = answers; in_row = in_row } ≡ world
-    → now ≡ log → more ≡ now ++ Ask Own sent true true ∷ [] → sent ≡ request → counted ≡ min (answers + 1) (2 ^ 64 - 1) → record { log = more; faults = faults; answers = counted; in_row = 0 } ≡ heard world request
-heard-is world log now more faults answers counted in_row sent request view same grown copied rose =
-    let at : List Step → ℕ → WorldValue = λ l a. record { log = l; faults = faults; answers = a; in_row = 0 } in
+pub heard-is : (world : WorldValue) (log now more : List Step) (size size_after faults answers counted in_row : ℕ) (sent request : Request) → record { log = log; size = size; faults = faults; answers = answers; in_row = in_row } ≡ world
+    → size_after ≡ size → now ≡ log → more ≡ now ++ Ask Own sent true true ∷ [] → sent ≡ request → counted ≡ min (answers + 1) (2 ^ 64 - 1)
+    → record { log = more; size = size_after; faults = faults; answers = counted; in_row = 0 } ≡ heard world request
+heard-is world log now more size size_after faults answers counted in_row sent request view sized same grown copied rose =
+    let at : ℕ → List Step → ℕ → WorldValue = λ s l a. record { log = l; size = s; faults = faults; answers = a; in_row = 0 } in
     let grows : more ≡ log ++ Ask Own request true true ∷ [] = grown ∙ ap (λ l. l ++ Ask Own sent true true ∷ []) same ∙ ap (λ r. log ++ Ask Own r true true ∷ []) copied in
-    let P : WorldValue → Type 0 = λ w. at more counted ≡ heard w request in
-    subst P view (λ i. at (grows i) (rose i))
+    let P : WorldValue → Type 0 = λ w. at size_after more counted ≡ heard w request in
+    subst P view (λ i. at (sized i) (grows i) (rose i))
 
-pub unheard-is : (world after : WorldValue) (log now : List Step) (faults answers in_row : ℕ) → record { log = log; faults = faults; answers = answers; in_row = in_row } ≡ world → now ≡ log
-    → after ≡ unheard (record { log = now; faults = faults; answers = answers; in_row = in_row }) → after ≡ unheard world
-unheard-is world after log now faults answers in_row view same counted =
-    counted ∙ ap (λ (l : List Step). unheard (record { log = l; faults = faults; answers = answers; in_row = in_row })) same ∙ ap unheard view
+pub unheard-is : (world after : WorldValue) (log now : List Step) (size faults answers in_row : ℕ) → record { log = log; size = size; faults = faults; answers = answers; in_row = in_row } ≡ world → now ≡ log
+    → after ≡ unheard (record { log = now; size = size; faults = faults; answers = answers; in_row = in_row }) → after ≡ unheard world
+unheard-is world after log now size faults answers in_row view same counted =
+    counted ∙ ap (λ (l : List Step). unheard (record { log = l; size = size; faults = faults; answers = answers; in_row = in_row })) same ∙ ap unheard view
+
+-- an event that does not make the drive plain
+event-whole : (state : State) (happens : DriveEvent) → state.plain ≡ false → is_plain_event happens ≡ false → (after_event state happens).plain ≡ false
+event-whole state (event.Expire number) whole other = whole
+event-whole state event.Restore whole other = whole
+event-whole state (event.EndSession session) whole other = whole
+event-whole state event.Plain whole other = absurd (cc other)
+
+pub after-event : (before after : DriveValue) (log now more : List Step) (happens : DriveEvent) → IsDriveOf before log → is_plain_event happens ≡ false
+    → ((l : List Step) → Stands before l → Stands after (l ++ Event happens ∷ [])) → now ≡ log → more ≡ now ++ Event happens ∷ [] → IsDriveOf after more
+after-event before after log now more happens drive other befalls same grown =
+    let at : more ≡ log ++ Event happens ∷ [] = grown ∙ ap (λ (l : List Step). l ++ Event happens ∷ []) same in
+    subst (IsDriveOf after) (sym at) (record {
+      stands = befalls log drive.stands;
+      plain = ap (λ (state : State). state.plain) (state-push log (Event happens)) ∙ event-whole (state_of log) happens drive.plain other;
+    })

@@ -1,5 +1,5 @@
--- What a line of a script prints that is played on a drive: the refusals of other clients' calls, at each pull the drive's
--- change number and the paths of its items with sizes and digests, and at `drive` the same with contents.
+-- What a line of a script prints that is played on a drive: the refusals of other clients' calls, at each pull that ends the
+-- drive's change number and the paths of its items with sizes and digests, and at `drive` the same with contents.
 use Rattle.std.specs.Prelude.{ℕ, true, ◌&&◌, cond, List, [], ◌∷◌, ◌++◌, length, replicate, codes, nat_le, Option, Some, None}
 use Rattle.std.specs.List.{flat_map, list_all}
 use Rattle.std.specs.Option.{option_map}
@@ -23,16 +23,17 @@ use Rattle.gd_item.specs.declared.reply.Reply.{Reply}
 use Rattle.gd_item.specs.declared.reply.Reply.TheVariants as reply
 use Rattle.gd_item.specs.declared.request.Address.TheVariants.{ByPath}
 use Rattle.gd_item.specs.declared.request.Request.{Request}
-use Rattle.gd_item.specs.declared.request.Request.TheVariants.{MakeFolder, Put, Patch, Delete, Delta}
+use Rattle.gd_item.specs.declared.request.Request.TheVariants.{MakeFolder, Put, Patch, Delete}
 use Rattle.gd_item.specs.declared.step.Step.{Step}
-use Rattle.gd_item.specs.declared.step.Step.TheVariants.{Ask}
+use Rattle.gd_item.specs.declared.step.DriveEvent.TheVariants as event
+use Rattle.gd_item.specs.declared.step.Step.TheVariants.{Ask, Event}
 use Rattle.gd_item.specs.declared.step.Who.TheVariants.{Other}
 use Rattle.od_cli.specs.Script.{is_plain}
-use Rattle.od_cli.specs.Worlds.{page_size}
+use Rattle.od_cli.specs.Pulling.{asks_from, ends_from, most_replies, others_steps}
 use Rattle.od_cli.specs.declared.line.Content.{Content}
 use Rattle.od_cli.specs.declared.line.Content.TheVariants.{Text, Fill}
 use Rattle.od_cli.specs.declared.line.Line.{Line}
-use Rattle.od_cli.specs.declared.line.Line.TheVariants.{OtherPut, OtherMakeFolder, OtherMove, OtherRemove, Pull, Drive, Sync, Local, Requests}
+use Rattle.od_cli.specs.declared.line.Line.TheVariants.{OtherPut, OtherMakeFolder, OtherMove, OtherRemove, Expire, Restore, EndSession, Page, Pull, Drive, Sync, Local, Requests}
 
 -- the bytes of a content
 abbrev pub content_bytes : Content → List ℕ
@@ -46,11 +47,7 @@ request_of held (OtherMakeFolder path) = Some (MakeFolder (ByPath (names_above p
 request_of held (OtherMove from to) =
     option_map (λ parent. Patch (ByPath from) (Some (last_name to)) (Some (item_id parent)) Free) (folder_above held to)
 request_of held (OtherRemove path) = Some (Delete (ByPath path) Free)
-request_of held Pull = Some (Delta None)
-request_of held Drive = None
-request_of held Sync = None
-request_of held Local = None
-request_of held Requests = None
+request_of held line = None
 
 -- the line of a refusal: `other`, the status and the code
 abbrev pub refusal_line : ℕ → ErrorCode → List ℕ
@@ -61,9 +58,9 @@ abbrev pub reply_text : Reply → List ℕ
 reply_text (reply.Refused status code) = refusal_line status code
 reply_text reply = []
 
-abbrev pub request_text : State → Option Request → List ℕ
-request_text state None = refusal_line 404 ItemNotFound
-request_text state (Some request) = reply_text (answer state page_size request)
+abbrev pub request_text : State → ℕ → Option Request → List ℕ
+request_text state size None = refusal_line 404 ItemNotFound
+request_text state size (Some request) = reply_text (answer state size request)
 
 -- the step that it is
 abbrev pub request_steps : Option Request → List Step
@@ -78,9 +75,12 @@ abbrev pub entry_line : List (List ℕ) × Option (List ℕ) → List ℕ
 entry_line (path, None) = path_text path ++ codes "/\n"
 entry_line (path, Some bytes) = path_text path ++ codes " " ++ decimal (length bytes) ++ codes " " ++ digest_text bytes ++ codes "\n"
 
--- what a pull prints
-abbrev pub pull_text : Inventory → List ℕ
-pull_text held = codes "pull " ++ decimal held.number ++ codes "\n" ++ flat_map entry_line (tree_of held)
+-- what a pull prints that ends, and one that does not
+abbrev pub pulled_text : Inventory → List ℕ
+pulled_text held = codes "pull " ++ decimal held.number ++ codes "\n" ++ flat_map entry_line (tree_of held)
+
+abbrev pub pull_text : State → ℕ → List ℕ
+pull_text state size = cond (ends_from most_replies state size (Some None)) (pulled_text (held state)) (codes "pull Endless\n")
 
 -- a content of at most 64 bytes that may be quoted is shown, and of another one the digest
 abbrev pub content_text : List ℕ → List ℕ
@@ -94,15 +94,23 @@ content_line (path, Some bytes) = path_text path ++ codes " " ++ decimal (length
 abbrev pub drive_text : Inventory → List ℕ
 drive_text held = codes "drive " ++ decimal held.number ++ codes "\n" ++ flat_map content_line (tree_of held)
 
--- what a line prints, and the steps that it adds, after the steps of a log; a sync and what speaks of the folder or of requests
--- are told elsewhere
-abbrev pub line_text : List Step → Line → List ℕ
-line_text log Sync = []
-line_text log Local = []
-line_text log Requests = []
-line_text log Pull = pull_text (held (state_of log))
-line_text log Drive = drive_text (held (state_of log))
-line_text log line = request_text (state_of log) (request_of (held (state_of log)) line)
+-- what a line prints, and the steps that it adds, after the steps of a log of a drive with pages of some size; a sync and what
+-- speaks of the folder or of requests are told elsewhere
+abbrev pub line_text : List Step → ℕ → Line → List ℕ
+line_text log size Sync = []
+line_text log size Local = []
+line_text log size Requests = []
+line_text log size (Expire number) = []
+line_text log size Restore = []
+line_text log size (EndSession session) = []
+line_text log size (Page new_size) = []
+line_text log size Pull = pull_text (state_of log) size
+line_text log size Drive = drive_text (held (state_of log))
+line_text log size line = request_text (state_of log) size (request_of (held (state_of log)) line)
 
-abbrev pub line_steps : List Step → Line → List Step
-line_steps log line = request_steps (request_of (held (state_of log)) line)
+abbrev pub line_steps : List Step → ℕ → Line → List Step
+line_steps log size (Expire number) = Event (event.Expire number) ∷ []
+line_steps log size Restore = Event event.Restore ∷ []
+line_steps log size (EndSession session) = Event (event.EndSession session) ∷ []
+line_steps log size Pull = others_steps (asks_from most_replies (state_of log) size (Some None))
+line_steps log size line = request_steps (request_of (held (state_of log)) line)

@@ -1,7 +1,7 @@
 -- A run of a script: from a new drive, an empty folder and an empty keeper each line leads to what is after it, and prints its
 -- text. A line of other clients, and what is printed of a drive or a folder, are as they are defined; a sync leads to any logs
 -- and images, and to any end, that its contract allows where no one else asks the drive or edits the folder and nothing fails.
-use Rattle.std.specs.Prelude.{◌≡◌, ℕ, Bool, false, cond, List, [], ◌∷◌, ◌++◌, length, drop, codes, count_by, nat_eq}
+use Rattle.std.specs.Prelude.{◌≡◌, ℕ, Bool, true, false, ◌&&◌, cond, List, [], ◌∷◌, ◌++◌, length, drop, codes, count_by, nat_eq}
 use Rattle.std.specs.List.{flat_map}
 use Rattle.std.specs.Fmt.{decimal}
 use Rattle.gd_item.specs.Ids.{id_text}
@@ -20,20 +20,24 @@ use Rattle.od_sync.specs.Ends.{Counts, HasCause}
 use Rattle.od_sync.specs.Syncs.{Syncs}
 use Rattle.od_sync.specs.declared.ends.SyncEnd.{SyncEnd}
 use Rattle.od_sync.specs.declared.ends.SyncEnd.TheVariants as ends
+use Rattle.od_cli.specs.Following.{can_follow}
 use Rattle.od_cli.specs.Played.{content_line, line_text, line_steps}
+use Rattle.od_cli.specs.Worlds.{page_size}
 use Rattle.od_cli.specs.declared.line.Line.{Line}
-use Rattle.od_cli.specs.declared.line.Line.TheVariants.{Sync, Local, Requests}
+use Rattle.od_cli.specs.declared.line.Line.TheVariants.{Page, Sync, Local, Requests}
 
--- what a run has come to: the drive's log, the folder's log, the committed images, and how many steps of the drive's log
--- earlier `requests` lines told
+-- what a run has come to: the drive's log, how many items a page of it has at most, whether this client can follow what befell
+-- it, the folder's log, the committed images, and how many steps of the drive's log earlier `requests` lines told
 pub record Run : Type 0 where
   pub drive : List Step
+  pub size : ℕ
+  pub followed : Bool
   pub local : List LocalStep
   pub images : List Image
   pub counted : ℕ
 
 abbrev pub new_run : Run
-new_run = record { drive = []; local = []; images = []; counted = 0 }
+new_run = record { drive = []; size = page_size; followed = true; local = []; images = []; counted = 0 }
 
 -- what a sync prints: its end, after the item that does not fit, if that ended it
 abbrev pub sync_text : SyncEnd → List ℕ
@@ -127,10 +131,13 @@ requests_text steps = codes "requests" ++ flat_map (λ (kind : RequestKind). cou
 
 -- what a line does
 abbrev pub Goes : Run → Line → Run → List ℕ → Type 0
-Goes run Sync next text = (end : SyncEnd) × Synced run next end × (text ≡ sync_text end)
+Goes run Sync next text = (run.followed ≡ true) × ((end : SyncEnd) × Synced run next end × (text ≡ sync_text end))
 Goes run Local next text = (next ≡ run) × (text ≡ local_text run.local)
 Goes run Requests next text = (next ≡ record run { counted = length run.drive }) × (text ≡ requests_text (drop run.counted run.drive))
-Goes run line next text = (next ≡ record run { drive = run.drive ++ line_steps run.drive line }) × (text ≡ line_text run.drive line)
+Goes run (Page size) next text = (next ≡ record run { size = size; followed = false }) × (text ≡ [])
+Goes run line next text =
+    (next ≡ record run { drive = run.drive ++ line_steps run.drive run.size line; followed = can_follow line && run.followed })
+    × (text ≡ line_text run.drive run.size line)
 
 -- what lines do, one after the other
 abbrev pub GoThrough : Run → List Line → Run → List ℕ → Type 0

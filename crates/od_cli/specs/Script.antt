@@ -1,6 +1,6 @@
 -- The language of replay scripts: one line per LF, the last LF optional, in UTF-8. Words are parted by one space.
 -- A line that is empty or begins with `#` does nothing.
-use Rattle.std.specs.Prelude.{ℕ, ◌+◌, ◌-◌, ◌*◌, Bool, not, ◌&&◌, ◌||◌, cond, List, [], ◌∷◌, ◌++◌, length, take, drop, codes, nat_eq, nat_le, Option, Some, None, Result, Ok, Err}
+use Rattle.std.specs.Prelude.{ℕ, ◌+◌, ◌-◌, ◌*◌, Bool, true, not, ◌&&◌, ◌||◌, cond, List, [], ◌∷◌, ◌++◌, length, take, drop, codes, nat_eq, nat_le, Option, Some, None, Result, Ok, Err}
 use Rattle.std.specs.List.{list_any, list_all, starts_with, ends_with}
 use Rattle.std.specs.Option.{option_map}
 use Rattle.std.specs.Str.{is_utf8}
@@ -11,7 +11,8 @@ use Rattle.gd_item.specs.Tokens.{digits_value}
 use Rattle.od_cli.specs.declared.line.Content.{Content}
 use Rattle.od_cli.specs.declared.line.Content.TheVariants.{Text, Fill}
 use Rattle.od_cli.specs.declared.line.Line.{Line}
-use Rattle.od_cli.specs.declared.line.Line.TheVariants.{OtherPut, OtherMakeFolder, OtherMove, OtherRemove, Pull, Drive, Sync, Local, Requests}
+use Rattle.od_cli.specs.declared.line.Line.TheVariants.{OtherPut, OtherMakeFolder, OtherMove, OtherRemove, Expire, Restore, EndSession, Page, Pull, Drive, Sync, Local, Requests}
+use Rattle.od_cli.specs.Following.{can_follow, is_allowed}
 
 -- the lines of a text, the first of which begins with what was read already
 abbrev pub lines_from : List ℕ → List ℕ → List (List ℕ)
@@ -129,9 +130,20 @@ abbrev pub other_parts : Option (List ℕ × List ℕ) → Option Line
 other_parts None = None
 other_parts (Some parts) = other_line parts.0 parts.1
 
+-- what a word and a number do to the drive; most numbers are below 2^32
+abbrev pub most_number : ℕ
+most_number = 4294967295
+
+abbrev pub number_line : List ℕ → List ℕ → Option Line
+number_line word rest =
+    cond (pointwise nat_eq word (codes "page")) (option_map Page (script_number 200 rest))
+    (cond (pointwise nat_eq word (codes "expire")) (option_map Expire (script_number most_number rest))
+    (cond (pointwise nat_eq word (codes "endsession")) (option_map EndSession (script_number most_number rest)) None))
+
 abbrev pub command_parts : Option (List ℕ × List ℕ) → Option Line
 command_parts None = None
-command_parts (Some parts) = cond (pointwise nat_eq parts.0 (codes "other")) (other_parts (first_word parts.1)) None
+command_parts (Some parts) =
+    cond (pointwise nat_eq parts.0 (codes "other")) (other_parts (first_word parts.1)) (number_line parts.0 parts.1)
 
 -- the line that a text spells which is neither empty nor a comment
 abbrev pub command : List ℕ → Option Line
@@ -140,15 +152,27 @@ command text =
     (cond (pointwise nat_eq text (codes "drive")) (Some Drive)
     (cond (pointwise nat_eq text (codes "sync")) (Some Sync)
     (cond (pointwise nat_eq text (codes "local")) (Some Local)
-    (cond (pointwise nat_eq text (codes "requests")) (Some Requests) (command_parts (first_word text))))))
+    (cond (pointwise nat_eq text (codes "requests")) (Some Requests)
+    (cond (pointwise nat_eq text (codes "restore")) (Some Restore) (command_parts (first_word text)))))))
 
 -- whether a line does nothing
 abbrev pub is_silent : List ℕ → Bool
 is_silent text = nat_eq (length text) 0 || starts_with nat_eq text (codes "#")
 
+-- a line that is read, where this client can follow all lines before it or not
+abbrev pub allowed : Bool → Option Line → Option Line
+allowed followed None = None
+allowed followed (Some line) = cond (is_allowed followed line) (Some line) None
+
 -- the lines that one line of a script stands for: none or one, if it is a script line
-abbrev pub line_of : List ℕ → Option (List Line)
-line_of text = cond (is_utf8 text) (cond (is_silent text) (Some []) (option_map (λ line. line ∷ []) (command text))) None
+abbrev pub line_of : Bool → List ℕ → Option (List Line)
+line_of followed text =
+    cond (is_utf8 text) (cond (is_silent text) (Some []) (option_map (λ line. line ∷ []) (allowed followed (command text)))) None
+
+-- whether this client can follow these lines too
+abbrev pub still_followed : Bool → List Line → Bool
+still_followed followed [] = followed
+still_followed followed (line ∷ lines) = can_follow line && followed
 
 -- a line before the others: the first that is no script line is told
 abbrev pub joined : ℕ → Option (List Line) → Result (List Line) ℕ → Result (List Line) ℕ
@@ -156,11 +180,17 @@ joined number None others = Err number
 joined number (Some line) (Ok others) = Ok (line ++ others)
 joined number (Some line) (Err bad) = Err bad
 
+-- what follows a line, if it is a script line
+abbrev pub following : Bool → Option (List Line) → (Bool → Result (List Line) ℕ) → Result (List Line) ℕ
+following followed None others = Ok []
+following followed (Some line) others = others (still_followed followed line)
+
 -- the lines from this number on
-abbrev pub script_from : ℕ → List (List ℕ) → Result (List Line) ℕ
-script_from number [] = Ok []
-script_from number (line ∷ lines) = joined number (line_of line) (script_from (number + 1) lines)
+abbrev pub script_from : ℕ → Bool → List (List ℕ) → Result (List Line) ℕ
+script_from number followed [] = Ok []
+script_from number followed (line ∷ lines) =
+    joined number (line_of followed line) (following followed (line_of followed line) (λ after. script_from (number + 1) after lines))
 
 -- what a text spells: its lines, or the number of the first that is no script line
 abbrev pub script : List ℕ → Result (List Line) ℕ
-script text = script_from 1 (lines_of text)
+script text = script_from 1 true (lines_of text)

@@ -8,6 +8,8 @@ use Rattle.gd_item.specs.declared.reply.Reply.{Reply}
 use Rattle.gd_item.specs.declared.reply.Reply.TheVariants as reply
 use Rattle.gd_item.specs.declared.request.Request.{Request}
 use Rattle.gd_item.specs.declared.request.Request.TheVariants.{OpenSession, Fragment, SessionStatus, CancelSession, Finish, Delta}
+use Rattle.gd_item.specs.declared.step.DriveEvent.{DriveEvent}
+use Rattle.gd_item.specs.declared.step.DriveEvent.TheVariants as event
 use Rattle.gd_item.specs.declared.step.Step.{Step}
 use Rattle.gd_item.specs.declared.step.Step.TheVariants.{Ask}
 use Rattle.gd_item.specs.declared.step.Who.TheVariants.{Own, Other}
@@ -15,13 +17,15 @@ use Rattle.gd_api.specs.Drives.{DriveValue, Stands}
 use Rattle.gd_store.specs.Stands.{StoreValue, Stands as StandsFor}
 use Rattle.od_transfer.specs.Asking.{IsPageSize, may_answer}
 
--- how many items a list of the drive has at most
+-- how many items a list of a new drive has at most
 abbrev pub page_size : ℕ
 page_size = 200
 
--- the drive's log, how often this client had no reply, how often it had one, and how often it had none since
+-- the drive's log, how many items a list of it has at most, how often this client had no reply, how often it had one, and how
+-- often it had none since
 pub record WorldValue : Type 0 where
   pub log : List Step
+  pub size : ℕ
   pub faults : ℕ
   pub answers : ℕ
   pub in_row : ℕ
@@ -29,7 +33,6 @@ pub record WorldValue : Type 0 where
 -- the drive stands for the log, and is not plain
 pub record IsDriveOf (drive : DriveValue) (log : List Step) : Type 0 where
   pub stands : Stands drive log
-  pub size : drive.size ≡ page_size
   pub plain : (state_of log).plain ≡ false
 
 -- a store stands for these effects, of some epoch and floor
@@ -44,6 +47,11 @@ is_about_session (SessionStatus session) = true
 is_about_session (CancelSession session) = true
 is_about_session (Finish session) = true
 is_about_session request = false
+
+-- whether a drive becomes plain
+abbrev pub is_plain_event : DriveEvent → Bool
+is_plain_event event.Plain = true
+is_plain_event event = false
 
 -- whether a request is one for changes
 abbrev pub is_delta : Request → Bool
@@ -71,6 +79,7 @@ pub record IsOwnReply (state : State) (request : Request) (reply : Reply) : Type
 abbrev pub heard : WorldValue → Request → WorldValue
 heard world request = record {
   log = world.log ++ Ask Own request true true ∷ [];
+  size = world.size;
   faults = world.faults;
   answers = min (world.answers + 1) (2 ^ 64 - 1);
   in_row = 0;

@@ -19,6 +19,14 @@ pub enum Line {
     OtherMove(Path, Path),
     /// Another client removes an item and all below it.
     OtherRemove(Path),
+    /// Tokens that the drive gave out below this change number expire.
+    Expire(u64),
+    /// The drive is restored from elsewhere.
+    Restore,
+    /// This upload session ends.
+    EndSession(u64),
+    /// A page of the drive has at most so many items.
+    Page(u64),
     /// Another client pulls the drive afresh.
     Pull,
     /// The drive's change number and its tree.

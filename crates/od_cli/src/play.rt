@@ -1,18 +1,20 @@
-ghost use Rattle.std.specs.Prelude.{◌≡◌, ◌≢◌, ◌++◌, [], false, true, List, Some, IfOk, OnOk};
+ghost use Rattle.std.specs.Prelude.{◌≡◌, ◌≢◌, ◌≤◌, ◌++◌, ◌∷◌, ◌&&◌, [], false, true, List, Some, IfOk, OnOk};
 ghost use Rattle.gd_item.specs.Answers.{unserved};
 ghost use Rattle.od_tree.specs.Memory as tree;
 ghost use Rattle.od_tree.specs.declared.step.LocalStep.{LocalStep};
 ghost use Rattle.od_cli.specs.Played.{content_bytes, reply_text};
+ghost use Rattle.od_cli.specs.Following.{are_allowed, can_follow, is_allowed};
 ghost use Rattle.od_cli.specs.Plays.{IsAsked, Plays, is_change};
 ghost use Rattle.od_cli.specs.Runs as runs;
 ghost use Rattle.od_cli.specs.RunStates.{PlaysTo, StandsFor};
+ghost use Rattle.od_cli.specs.Worlds.{is_plain_event};
 
 use crate::counting::{print_requests, steps_after};
 use crate::line::{Content, Line};
 use crate::print::{print_end, print_folder, print_refusal};
 use crate::pull::{print_drive, print_pull};
-use crate::world::World;
-use gd_item::{Address, Condition, ErrorCode, Reply, Request, split_last};
+use crate::world::{PAGE_SIZE, World};
+use gd_item::{Address, Condition, DriveEvent, ErrorCode, Reply, Request, Step, split_last};
 use gd_names::{Bytes, Conflict, List, NoMemory, Path};
 use od_keeper::MemoryKeeper;
 use od_sync::{SyncEnd, sync_now};
@@ -128,19 +130,21 @@ fn remove(alloc: Global, world: &mut World, out: &mut Bytes, path: &Path) -> Res
     ask(alloc, world, out, request)
 }
 
-/// The drive, the folder and the keeper of a run, and how many steps of the drive's log earlier `requests` lines told.
+/// The drive, the folder and the keeper of a run, how many steps of the drive's log earlier `requests` lines told, and whether this
+/// client can follow what befell the drive.
 #[derive(Debug, Drop)]
 struct Run {
     world: World,
     folder: MemoryTree,
     keeper: MemoryKeeper,
     counted: usize,
+    followed: bool,
 }
 
 impl Run {
     /// A new drive, an empty folder and an empty keeper.
     fn new(alloc: Global) -> Result<Run, NoMemory>
-        ensures { IfOk result (λ run. StandsFor run.world run.folder run.keeper run.counted runs.new_run) }
+        ensures { IfOk result (λ run. StandsFor run.world run.folder run.keeper run.counted run.followed runs.new_run) }
     {
         let world = World::new(alloc)?;
         Ok(Run {
@@ -148,15 +152,21 @@ impl Run {
             folder: MemoryTree::new(alloc, List::new(alloc), List::new(alloc)),
             keeper: MemoryKeeper::new(alloc, List::new(alloc)),
             counted: 0,
+            followed: true,
         })
     }
 
     /// Syncs the folder with the drive, and prints how that ended.
     fn sync(&mut self, alloc: Global, out: &mut Bytes) -> Result<(), NoMemory>
-        ensures { OnOk result ((value : runs.Run) → StandsFor self.old.world self.old.folder self.old.keeper self.old.counted value
-            → PlaysTo self.new.world self.new.folder self.new.keeper self.new.counted value Line.Sync out.old out.new) }
+        requires { self.old.followed ≡ true }
+        ensures followed { self.new.followed ≡ self.old.followed }
+        ensures plays { OnOk result ((value : runs.Run) → StandsFor self.old.world self.old.folder self.old.keeper self.old.counted self.old.followed value
+            → PlaysTo self.new.world self.new.folder self.new.keeper self.new.counted self.new.followed value Line.Sync out.old out.new) }
     {
-        match sync_now(alloc, &mut self.world, &mut self.folder, &mut self.keeper) {
+        let end = sync_now(alloc, &mut self.world, &mut self.folder, &mut self.keeper);
+        // A sync does not tell that it leaves this as it was.
+        self.world.set_page(PAGE_SIZE);
+        match end {
             SyncEnd::Memory => Err(NoMemory),
             end => print_end(alloc, out, end),
         }
@@ -170,16 +180,45 @@ impl Run {
         print_folder(alloc, out, entries.as_slice())
     }
 
+    /// Something happens to the drive.
+    fn event(&mut self, event: DriveEvent, followed: bool) -> Result<(), NoMemory>
+        requires { is_plain_event event ≡ false }
+        ensures { OnOk result ((self.new.world ≡ record self.old.world { log = self.old.world.log ++ Step.Event event ∷ [] }) × (self.new.folder ≡ self.old.folder) × (self.new.keeper ≡ self.old.keeper)
+            × (self.new.counted ≡ self.old.counted) × (self.new.followed ≡ (followed && self.old.followed))) }
+    {
+        self.world.event(event)?;
+        self.followed = followed && self.followed;
+        Ok(())
+    }
+
+    /// Changes how many items a page of the drive has at most.
+    fn set_page(&mut self, size: u64) -> Result<(), NoMemory>
+        requires above { 1 ≤ size }
+        requires below { size ≤ 200 }
+        ensures { OnOk result ((self.new.world ≡ record self.old.world { size = size }) × (self.new.folder ≡ self.old.folder) × (self.new.keeper ≡ self.old.keeper)
+            × (self.new.counted ≡ self.old.counted) × (self.new.followed ≡ false)) }
+    {
+        self.world.set_page(size);
+        self.followed = false;
+        Ok(())
+    }
+
     /// Plays one line.
     fn play(&mut self, alloc: Global, out: &mut Bytes, line: &Line) -> Result<(), NoMemory>
-        ensures { OnOk result ((value : runs.Run) → StandsFor self.old.world self.old.folder self.old.keeper self.old.counted value
-            → PlaysTo self.new.world self.new.folder self.new.keeper self.new.counted value line.now out.old out.new) }
+        requires { is_allowed self.old.followed line.now ≡ true }
+        ensures followed { OnOk result (self.new.followed ≡ (can_follow line.now && self.old.followed)) }
+        ensures plays { OnOk result ((value : runs.Run) → StandsFor self.old.world self.old.folder self.old.keeper self.old.counted self.old.followed value
+            → PlaysTo self.new.world self.new.folder self.new.keeper self.new.counted self.new.followed value line.now out.old out.new) }
     {
         match line {
             Line::OtherPut(path, content) => put(alloc, &mut self.world, out, path, content),
             Line::OtherMakeFolder(path) => make_folder(alloc, &mut self.world, out, path),
             Line::OtherMove(from, to) => move_item(alloc, &mut self.world, out, from, to),
             Line::OtherRemove(path) => remove(alloc, &mut self.world, out, path),
+            Line::Expire(number) => self.event(DriveEvent::Expire(*number), false),
+            Line::Restore => self.event(DriveEvent::Restore, false),
+            Line::EndSession(session) => self.event(DriveEvent::EndSession(*session), true),
+            Line::Page(size) => self.set_page(*size),
             Line::Pull => print_pull(alloc, &mut self.world, out),
             Line::Drive => print_drive(alloc, &self.world, out),
             Line::Sync => self.sync(alloc, out),
@@ -195,6 +234,7 @@ impl Run {
 
 /// Plays the lines on a new drive and an empty folder, and gives what they print.
 pub fn play(alloc: Global, lines: &[Line]) -> Result<Bytes, NoMemory>
+    requires { are_allowed true lines.now ≡ true }
     ensures { IfOk result (λ text. runs.Played lines.now text) }
 {
     let mut run = Run::new(alloc)?;

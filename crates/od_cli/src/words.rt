@@ -74,7 +74,7 @@ fn read_fill(text: &[u8]) -> Option<Content>
 }
 
 /// A number in decimal from 1 up to a most, without leading zeros.
-fn read_number(word: &[u8], most: u32) -> Option<u32>
+pub fn read_number(word: &[u8], most: u32) -> Option<u32>
     ensures { result ≡ script_number most word.now }
 {
     if !is_number(word) {

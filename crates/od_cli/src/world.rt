@@ -1,25 +1,25 @@
-ghost use Rattle.std.specs.Prelude.{◌≡◌, ◌≤◌, [], true, false, None, IfOk, IsErrOf};
+ghost use Rattle.std.specs.Prelude.{◌≡◌, ◌≤◌, ◌<◌, [], ◌∷◌, ◌++◌, true, false, None, IfOk, OnOk, IsErrOf};
+ghost use Rattle.std.specs.Option.{option_copied};
 ghost use Rattle.gd_item.specs.Answers.{answer};
 ghost use Rattle.gd_item.specs.Sound.{IsItemMap};
-ghost use Rattle.gd_item.specs.Steps.{state_of, held_by};
+ghost use Rattle.gd_item.specs.Steps.{state_of};
 ghost use Rattle.od_transfer.specs.Undisturbed.{is_servable};
-ghost use Rattle.od_cli.specs.Pulled.{whole_items, IsWhole};
-ghost use Rattle.od_cli.specs.Worlds.{page_size, heard, is_about_session, is_delta, is_want_of_memory, unheard, with_other, Holds, IsOwnReply};
+ghost use Rattle.od_cli.specs.Worlds.{page_size, heard, is_about_session, is_delta, is_plain_event, is_want_of_memory, unheard, with_other, Holds, IsOwnReply};
 
 use gd_api::Drive;
 use gd_delta::{DeltaFault, page};
-use gd_item::{Page, Reply, Request, Step, Who};
+use gd_item::{DriveEvent, Reply, Request, Step, Who};
 use gd_names::{List, NoMemory, Text};
 use gd_store::Store;
 use od_transfer::{AskFault, Carrier, Job, Outcome, Remote, carry_each};
 use std::alloc::Global;
 use std::marker::Model;
 
-/// How many items a list of the drive has at most.
-const PAGE_SIZE: u64 = 200;
+/// How many items a list of a new drive has at most.
+pub const PAGE_SIZE: u64 = 200;
 
-/// A drive in memory with its log, which other clients and this one ask. Changes come in one page, however many they are. It
-/// has no reply for this client where the drive does not serve a token, and for requests about upload sessions.
+/// A drive in memory with its log, which other clients and this one ask. For this client changes come in one page, however many
+/// they are, and there is no reply where the drive does not serve a token, and to requests about upload sessions.
 #[derive(Debug, Drop)]
 pub struct World {
     drive: Drive,
@@ -34,7 +34,7 @@ impl Model for World {
 
     ghost Value = { WorldValue };
 
-    ghost view = { λ w. record { log = w.log.items; faults = w.faults; answers = w.answers; in_row = w.in_row } };
+    ghost view = { λ w. record { log = w.log.items; size = w.drive.size; faults = w.faults; answers = w.answers; in_row = w.in_row } };
 
     ghost invariant = { λ w. IsDriveOf w.drive w.log.items };
 }
@@ -42,7 +42,7 @@ impl Model for World {
 impl World {
     /// A drive with its root alone.
     pub fn new(alloc: Global) -> Result<World, NoMemory>
-        ensures { IfOk result (λ world. world ≡ record { log = []; faults = 0; answers = 0; in_row = 0 }) }
+        ensures { IfOk result (λ world. world ≡ record { log = []; size = page_size; faults = 0; answers = 0; in_row = 0 }) }
     {
         let drive = Drive::new(alloc, PAGE_SIZE)?;
         Ok(World {
@@ -56,7 +56,8 @@ impl World {
 
     /// The store of the drive.
     pub fn store(&self) -> &Store
-        ensures { Holds result.now (state_of self.now.log).effects }
+        ensures holds { Holds result.now (state_of self.now.log).effects }
+        ensures whole { (state_of self.now.log).plain ≡ false }
     {
         self.drive.store()
     }
@@ -70,8 +71,9 @@ impl World {
 
     /// Another client asks the drive.
     pub fn other(&mut self, request: Request) -> Result<Reply, NoMemory>
-        ensures reply { IfOk result (λ reply. reply ≡ answer (state_of self.old.log) page_size request) }
+        ensures reply { IfOk result (λ reply. reply ≡ answer (state_of self.old.log) self.old.size request) }
         ensures log { IfOk result (λ reply. self.new ≡ record self.old { log = with_other self.old.log request }) }
+        ensures size { 0 < self.old.size }
     {
         self.log.reserve(1)?;
         let reply = self.drive.handle(&request);
@@ -93,22 +95,24 @@ impl World {
         AskFault::Failed
     }
 
-    /// Another client asks for all that lives.
-    pub fn enumerate(&mut self, alloc: Global) -> Result<Page, NoMemory>
-        ensures whole { IfOk result (λ page. IsWhole page) }
-        ensures items { IfOk result (λ page. page.items ≡ whole_items (held_by self.old.log)) }
-        ensures log { IfOk result (λ page. self.new ≡ record self.old { log = with_other self.old.log (Request.Delta None) }) }
+    /// Something happens to the drive without a request; it does not become plain.
+    pub fn event(&mut self, event: DriveEvent) -> Result<(), NoMemory>
+        requires { is_plain_event event ≡ false }
+        ensures { OnOk result (self.new ≡ record self.old { log = self.old.log ++ Step.Event event ∷ [] }) }
     {
         self.log.reserve(1)?;
-        match page(alloc, self.drive.store(), None, u64::MAX) {
-            Ok(page) => {
-                let request = Request::Delta { token: None };
-                self.log.push_reserved(heard_step(Who::Other, request));
-                Ok(page)
-            }
-            // What no token asks for is there, so memory is wanting.
-            Err(_) => Err(NoMemory),
-        }
+        self.drive.event(event);
+        self.log.push_reserved(Step::Event(event));
+        Ok(())
+    }
+
+    /// Changes how many items a list of the drive has at most, to a number from 1 to 200.
+    pub fn set_page(&mut self, size: u64)
+        requires above { 1 ≤ size }
+        requires below { size ≤ 200 }
+        ensures { self.new ≡ record self.old { size = size } }
+    {
+        self.drive.set_page(size);
     }
 
     /// This client asks for changes.
@@ -119,7 +123,7 @@ impl World {
         ensures faults { self.old.faults ≤ self.new.faults }
         ensures answers { self.old.answers ≤ self.new.answers }
     {
-        let Ok(sent) = copy_token(token) else {
+        let Ok(sent) = copy_token(token.as_ref()) else {
             return Err(AskFault::Memory);
         };
         match self.log.reserve(1) {
@@ -185,8 +189,8 @@ impl World {
 }
 
 /// A copy of a token that may be there.
-fn copy_token(token: &Option<Text>) -> Result<Option<Text>, NoMemory>
-    ensures { IfOk result (λ copy. copy ≡ token.now) }
+pub fn copy_token(token: Option<&Text>) -> Result<Option<Text>, NoMemory>
+    ensures { IfOk result (λ copy. copy ≡ option_copied token.entry) }
 {
     match token {
         Some(text) => Ok(Some(text.clone()?)),

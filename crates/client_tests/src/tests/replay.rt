@@ -87,6 +87,33 @@ fn scripts(rt: HostRuntime) -> Result<(), Fail> {
     Ok(())
 }
 
+/// A pull gives the drive's items in pages of any size, whatever was done between two pulls.
+#[test]
+fn pulls(rt: HostRuntime) -> Result<(), Fail> {
+    let alloc = rt.alloc();
+    let rows: [(&str, &str); 2] = [
+        (
+            "page 2\nother put /a \"x\"\nother put /b \"y\"\npull\nother move /a /c\npull\nother rm /b\nother mkdir /d\nother move /c /d/c\npull\npage 1\npull\n",
+            "pull 3\n/a 1 2d711642b726b04401627ca9fbac32f5c8530fb1903cc4db02258717921a4881\n/b 1 a1fce4363854ff888cff4b8e7875d600c2682390412a8cf79b37d0b11148b0fa\npull 4\n/b 1 a1fce4363854ff888cff4b8e7875d600c2682390412a8cf79b37d0b11148b0fa\n/c 1 2d711642b726b04401627ca9fbac32f5c8530fb1903cc4db02258717921a4881\npull 7\n/d/\n/d/c 1 2d711642b726b04401627ca9fbac32f5c8530fb1903cc4db02258717921a4881\npull 7\n/d/\n/d/c 1 2d711642b726b04401627ca9fbac32f5c8530fb1903cc4db02258717921a4881\n",
+        ),
+        (
+            "other put /a \"x\"\nsync\nexpire 2\nrestore\nendsession 1\npull\ndrive\n",
+            "sync Settled\npull 2\n/a 1 2d711642b726b04401627ca9fbac32f5c8530fb1903cc4db02258717921a4881\ndrive 2\n/a 1 \"x\"\n",
+        ),
+    ];
+    for (script, output) in rows {
+        let (ended, written) = replay_text(
+            alloc,
+            script.as_bytes(),
+            Vec::new(alloc),
+            Vec::new(alloc),
+        )?;
+        assert_eq!(rt; ended, ReplayStatus::Replayed, "at {script}");
+        assert_eq!(rt; written.as_slice(), output.as_bytes(), "at {script}");
+    }
+    Ok(())
+}
+
 /// A sync fetches what the drive has at free paths, asks for the changes alone, and ends Unsettled where a path is not free.
 #[test]
 fn syncs(rt: HostRuntime) -> Result<(), Fail> {

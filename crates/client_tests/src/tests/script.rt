@@ -19,6 +19,11 @@ fn scripts(rt: HostRuntime) {
         ("other put /a \"\"\nother mkdir /b\npull", 3),
         ("other move /a /b/c\nother rm /b\ndrive", 3),
         ("other put /a fill 1 00", 1),
+        (
+            "page 200\nexpire 4294967295\nrestore\nendsession 1\npull",
+            5,
+        ),
+        ("sync\nendsession 1\nsync\npage 1", 4),
     ];
     for (text, wanted) in rows {
         assert_eq!(rt; count(rt.alloc(), text.as_bytes()), Ok(wanted), "at {text}");
@@ -51,6 +56,16 @@ fn bad_lines(rt: HostRuntime) {
         ("other put /a fill 1 0g", 1),
         ("drive ", 1),
         ("pull ", 1),
+        ("page 0", 1),
+        ("page 201", 1),
+        ("page 2 ", 1),
+        ("expire", 1),
+        ("expire 4294967296", 1),
+        ("endsession 01", 1),
+        ("restore 1", 1),
+        ("page 2\nsync", 2),
+        ("expire 1\npull\nsync", 3),
+        ("restore\n\nsync", 3),
         ("pull\r\n", 1),
         ("pull\n# what\nwhat\nwhat", 3),
     ];

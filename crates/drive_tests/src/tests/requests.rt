@@ -205,6 +205,25 @@ fn files_refused_by_path(rt: HostRuntime) -> Result<(), Fail> {
 }
 
 #[test]
+fn files_put_in_turn(rt: HostRuntime) -> Result<(), Fail> {
+    let alloc = rt.alloc();
+    let mut drive = Drive::new(alloc, 200)?;
+    for (at, tag, status) in [
+        ("/x/a", "", 404),
+        ("/a", "e1", 412),
+        ("/a", "", 0),
+        ("/a", "", 409),
+    ] {
+        assert_eq!(rt;
+            put_by_path(alloc, &mut drive, at, tag)?,
+            status,
+            "{at}, {tag}"
+        );
+    }
+    Ok(())
+}
+
+#[test]
 fn large_files_are_refused_first(rt: HostRuntime) -> Result<(), Fail> {
     let alloc = rt.alloc();
     let mut drive = filled_drive(alloc)?;

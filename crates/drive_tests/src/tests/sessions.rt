@@ -107,6 +107,7 @@ fn a_large_file_is_sent_in_parts(rt: HostRuntime) -> Result<(), Fail> {
         let reply = send(alloc, &mut drive, first, last, 655_361, count)?;
         assert_eq!(rt; reply.as_str(), answer);
     }
+    assert_eq!(rt; status(alloc, &mut drive)?.as_str(), "404 itemNotFound");
     Ok(())
 }
 
@@ -250,6 +251,59 @@ fn the_feed_comes_in_pages(rt: HostRuntime) -> Result<(), Fail> {
     Ok(())
 }
 
+/// Gives an item of the root another name.
+fn rename(alloc: Global, drive: &mut Drive, id: u64, name: &str) -> Result<String, Fail> {
+    let request = Request::Patch {
+        at: Address::Id(ItemId(id)),
+        name: Some(text(alloc, name)?),
+        parent: None,
+        condition: Condition::Free,
+    };
+    ask(alloc, drive, &request)
+}
+
+#[test]
+fn an_item_that_moves_between_two_pages_comes_again(rt: HostRuntime) -> Result<(), Fail> {
+    let alloc = rt.alloc();
+    let mut drive = paged(alloc)?;
+    assert_eq!(rt; page_end(alloc, &mut drive, "")?.as_str(), "2 next t1.2.4");
+    assert_eq!(rt; rename(alloc, &mut drive, 2, "d")?.as_str(), "200 1 bytes");
+    for (token, end) in [
+        ("t1.2.4", "2 next t1.4.4"),
+        ("t1.4.4", "1 delta t1.5.4"),
+        ("t1.5.4", "0 delta t1.5.4"),
+    ] {
+        assert_eq!(rt;
+            page_end(alloc, &mut drive, token)?.as_str(),
+            end,
+            "{token}"
+        );
+    }
+    Ok(())
+}
+
+#[test]
+fn tokens_are_served_or_not(rt: HostRuntime) -> Result<(), Fail> {
+    let alloc = rt.alloc();
+    let mut drive = paged(alloc)?;
+    put(alloc, &mut drive, "/d", b"1")?;
+    drive.event(DriveEvent::Expire(4));
+    for (token, end) in [
+        ("t1.3.2", "gone ApplyDifferences"),
+        ("t1.2.4", "2 next t1.4.4"),
+        ("t2.9.9", "gone UploadDifferences"),
+        ("t1.6.1", "400"),
+        ("latest", "0 delta t1.5.5"),
+    ] {
+        assert_eq!(rt;
+            page_end(alloc, &mut drive, token)?.as_str(),
+            end,
+            "{token}"
+        );
+    }
+    Ok(())
+}
+
 /// So many files in the root, in pages of 200.
 fn many_files(alloc: Global, count: u64) -> Result<Drive, Fail> {
     let mut drive = Drive::new(alloc, 200)?;
@@ -335,5 +389,40 @@ fn versions_are_listed(rt: HostRuntime) -> Result<(), Fail> {
     assert_eq!(rt; versions(alloc, &drive, 2)?.as_str(), "4 3, 3 5, 2 3, ");
     assert_eq!(rt; versions(alloc, &drive, 1)?.as_str(), "the item is no file");
     assert_eq!(rt; versions(alloc, &drive, 9)?.as_str(), "no such item");
+    Ok(())
+}
+
+/// Puts the bytes that a version of a file has over the file, and tells how that ended.
+fn put_back(alloc: Global, drive: &mut Drive, id: u64, version: u64) -> Result<String, Fail> {
+    let id = ItemId(id);
+    match drive.handle(&Request::Download { id, version }) {
+        Reply::Content(bytes) => {
+            let request = Request::Put {
+                at: Address::Id(id),
+                bytes,
+                behaviour: Conflict::Replace,
+                condition: Condition::Free,
+            };
+            ask(alloc, drive, &request)
+        }
+        reply => said(alloc, &reply),
+    }
+}
+
+#[test]
+fn a_version_that_is_put_back_is_a_new_one(rt: HostRuntime) -> Result<(), Fail> {
+    let alloc = rt.alloc();
+    let mut drive = Drive::new(alloc, 200)?;
+    put(alloc, &mut drive, "/a", b"one")?;
+    put(alloc, &mut drive, "/a", b"two")?;
+    assert_eq!(rt; put_back(alloc, &mut drive, 2, 2)?.as_str(), "200 3 bytes");
+    assert_eq!(rt; versions(alloc, &drive, 2)?.as_str(), "4 3, 3 3, 2 3, ");
+    let bytes = drive.store().version(ItemId(2), 4)?;
+    assert!(rt; bytes.as_slice() == b"one".as_slice());
+    assert_eq!(rt;
+        put_back(alloc, &mut drive, 2, 7)?.as_str(),
+        "404 itemNotFound"
+    );
+    assert_eq!(rt; drive.store().number(), 4);
     Ok(())
 }

@@ -10,4 +10,4 @@ invariant_of-self-then-is_want_of_memory c =
 pub invariant_of-self-2 : goal.invariant_of-self-2
 invariant_of-self-2 c =
     logged c.self.inside.drive c.handle-reply.new.self c.self.inside.log.items c.args.request c.handle-reply.result c.self.invariant c.handle-reply.ensures.answer (sym c.is_want_of_memory.ensures ∙ c.if-is_want_of_memory.false)
-    c.handle-reply.ensures.size Other c.reserve.new.self.items c.push_reserved.new.self.items c.heard_step.result c.args.request c.reserve.ensures.items refl c.heard_step.ensures c.push_reserved.ensures.items
+    Other c.reserve.new.self.items c.push_reserved.new.self.items c.heard_step.result c.args.request c.reserve.ensures.items refl c.heard_step.ensures c.push_reserved.ensures.items
