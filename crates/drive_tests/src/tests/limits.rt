@@ -7,7 +7,7 @@ use std::alloc::Global;
 use std::test::Fail;
 
 /// How many files are in each of 20 folders.
-const FILES: u64 = 40;
+const FILES: u64 = 1_000;
 
 fn make(alloc: Global, drive: &mut Drive, name: &str) -> Result<u16, Fail> {
     let request = Request::MakeFolder {
@@ -87,10 +87,10 @@ fn change_since(
 fn each_of_many_changes_is_a_page_of_its_own(rt: HostRuntime) -> Result<(), Fail> {
     let alloc = rt.alloc();
     let mut drive = folders_of(alloc, FILES)?;
-    assert_eq!(rt; drive.store().live_items(), 821);
+    assert_eq!(rt; drive.store().live_items(), 20_021);
     let mut token = Some(text(alloc, "latest")?);
     (_, token) = change_since(alloc, &mut drive, token)?;
-    for name in 0..2 {
+    for name in 0..10 {
         for folder in 2..22 {
             let replaced = put_in(alloc, &mut drive, folder, name)?;
             let (changed, next) = change_since(alloc, &mut drive, token)?;
