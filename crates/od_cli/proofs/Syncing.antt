@@ -108,4 +108,4 @@ module _ (before after : WorldValue) (folder folder_after : MemoryTree) (kept ke
   pub sync-plays : (left : WorldValue) (old new : List ℕ) → left ≡ last → (ended ≡ ends.Memory → ⊥) → new ≡ old ++ sync_text ended → PlaysTo left folder_after kept_after counted followed run Sync old new
   sync-plays left old new is goes_on printed =
       let P : WorldValue → Type 0 = λ w. PlaysTo w folder_after kept_after counted followed run Sync old new in
-      subst P (sym is) (record { next = next; text = sync_text ended; stands = stands-after; goes = (run-followed, ended, synced goes_on, refl); printed = printed })
+      subst P (sym is) (record { next = next; text = sync_text ended; stands = stands-after; goes = (run-followed, (ended, synced goes_on, refl)); printed = printed })
