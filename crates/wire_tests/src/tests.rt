@@ -2,8 +2,6 @@ use gd_json::Wire;
 use std::alloc::Global;
 use std::test::Fail;
 
-mod again;
-mod answers;
 mod bytes;
 mod replies;
 mod requests;
