@@ -1,6 +1,6 @@
 -- What single calls of the store give.
 use Rattle.std.proofs.Common.{◌≡◌, ℕ, suc, ◌-◌, ◌<◌, length, get_or, arith, Bool, true, false, ◌||◌, not, cond, nat_eq, List, [], ◌∷◌, ◌++◌, map, take, Option, Some, None, Result, Ok, Err, IfOk, refl, sym, ap, ◌∙◌, subst, inl, inr}
-use Rattle.std.proofs.lemmas.Bool.{cases_Bool, eqb-true}
+use Rattle.std.proofs.lemmas.Bool.{cases_Bool}
 use Rattle.std.specs.Option.{option_map}
 use Rattle.gd_names.specs.declared.conflict.Settle.{Settle}
 use Rattle.gd_names.specs.declared.conflict.Settle.TheVariants.{Free, Over, Refuse}
@@ -24,6 +24,7 @@ use Rattle.gd_item.proofs.Effects.{inventory-snoc}
 use Rattle.gd_store.specs.Stands.{StoreValue, Stands, Answers, record_after, given_unless}
 use Rattle.gd_store.proofs.Given.{given-ok}
 use Rattle.gd_api.specs.Replies.{Steps, last_item_name}
+use Rattle.gd_store.proofs.Siblings.{own-number}
 
 -- an address names this number
 pub id-found : (found : Option ℕ) (id : ItemId) → option_map item_id found ≡ Some id → found ≡ Some id.0
@@ -57,17 +58,7 @@ folder-is-made parent name (Free free) = refl
 folder-is-made parent name (Over number) = refl
 folder-is-made parent name Refuse = refl
 
--- an item has the number by which it is found, and where none is found there is no node
-live-number : (number : ℕ) (items : List LiveItem) (item : LiveItem) → live_at number items ≡ Some item → item.number ≡ number
-live-number number [] item is = absurd cc
-live-number number (first ∷ items) item is = elim (cases_Bool (nat_eq first.number number)) [
-  | inl here ↦
-      let is' : Some first ≡ Some item = rw here at is in
-      let same : first ≡ item = cc in
-      ap (λ (i : LiveItem). i.number) (sym same) ∙ eqb-true first.number number here
-  | inr later ↦ live-number number items item (rw later at is)
-]
-
+-- where no item is found there is no node
 no-node : (number : ℕ) (items : List LiveItem) → live_at number items ≡ None → node_at number (map live_node items) ≡ None
 no-node number [] is = refl
 no-node number (first ∷ items) is = elim (cases_Bool (nat_eq first.number number)) [
@@ -90,7 +81,7 @@ found-in held number None is allowed =
     let none : node_at number (map live_node held.items) ≡ None = no-node number held.items is in
     let refused : file_refusal held number ≡ cond (not (nat_eq number 1 || false)) (Some NotFound) (cond (nat_eq number 1 || false) (Some NotFile) None) = rw none in
     absurd (no-file (nat_eq number 1) (sym refused ∙ allowed))
-found-in held number (Some item) is allowed = ap (λ n. reply.Found (item_id n) item.content) (sym (live-number number held.items item is))
+found-in held number (Some item) is allowed = ap (λ n. reply.Found (item_id n) item.content) (sym (own-number number held.items item is))
 
 content-found : (held : Inventory) (number content : ℕ) → file_refusal held number ≡ None → content ≡ content_at number held → reply.Found (item_id number) content ≡ content_reply held number
 content-found held number content allowed is = ap (λ n. reply.Found (item_id number) n) is ∙ found-in held number (live_at number held.items) refl allowed

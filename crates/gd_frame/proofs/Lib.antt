@@ -1,7 +1,11 @@
 pub mod Fields
 pub mod Heads
 pub mod Rooms
+pub mod Characters
+pub mod Following
+pub mod Parts
 pub mod Spots
+pub mod Known
 pub mod Holding
 pub mod Streams
 pub mod Feeds

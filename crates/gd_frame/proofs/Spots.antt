@@ -1,25 +1,28 @@
 -- Where bytes end in a head: what may follow a byte more may follow the byte itself, and while a spot is known the head is open.
-use Rattle.std.proofs.Common.{◌≡◌, ℕ, zero, suc, ◌+◌, ◌<◌, ◌≤◌, ◌⊎◌, Bool, true, false, ◌==◌, List, [], ◌∷◌, ◌++◌, length, cond, inl, inr, refl, sym, ap, subst, ◌∙◌, arith, append_assoc, append-nil, length-append, lit≤, lit<, All, Some, None}
-use Rattle.std.specs.Prelude.{codes, replicate}
+use Rattle.std.proofs.Common.{◌≡◌, ℕ, zero, suc, ◌+◌, ◌*◌, ◌<◌, ◌≤◌, ◌⊎◌, Bool, true, ◌==◌, List, [], ◌∷◌, ◌++◌, length, cond, inl, inr, refl, sym, ap, subst, ◌∙◌, arith, append_assoc, append-nil, length-append, lit≤, lit<, All, Some, None, IsUtf8}
+use Rattle.std.specs.Prelude.{codes, replicate, nat_le}
 use Rattle.std.specs.List.{flat_map}
 use Rattle.std.specs.Char.{is_ascii_digit}
-use Rattle.std.specs.Str.{IsAscii}
+use Rattle.std.specs.Int.{is_in_range}
 use Rattle.std.proofs.lemmas.Bool.{cond_both}
 use Rattle.std.proofs.lemmas.Bool.Decides.{nat_tests}
 use Rattle.std.proofs.lemmas.List.{length-replicate}
 use Rattle.std.proofs.lemmas.List.Concat.{flat_map-cons}
-use Rattle.std.proofs.lemmas.List.Elements.{All-nil, All-cons, All-head, All-tail, All-weaker}
-use Rattle.std.proofs.lemmas.Str.{IsUtf8-from_ascii}
+use Rattle.std.proofs.lemmas.List.Elements.{All-nil, All-cons, All-append}
+use Rattle.std.proofs.lemmas.Str.{IsUtf8-nil}
 use Rattle.httparse.specs.Grammar.{is_token_byte, is_uri_byte, is_value_byte, AllPass, LineEnd, crlf, lf, print_end, print_blank, print_version, Field, IsField, print_field, print_section, RequestHead, print_request, ResponseHead, print_response}
 use Rattle.httparse.proofs.GrammarLemmas.{print_request-append, print_response-append}
 use Rattle.gd_frame.specs.declared.message.Kind.{Kind}
 use Rattle.gd_frame.specs.declared.message.Kind.TheVariants.{Request, Reply}
 use Rattle.gd_frame.specs.declared.spot.Spot.{Spot}
 use Rattle.gd_frame.specs.declared.spot.Spot.TheVariants as spot
-use Rattle.gd_frame.specs.Messages.{IsMessage, HasNoMessage, HasOpenHead}
-use Rattle.gd_frame.specs.Spots.{is_target_byte, line_after, first_after, behind_version, spot_after, spot_of, is_known, IsSection, IsEnded, IsReturned, IsValued, IsNamed, IsReasoned, IsCoded, IsStatus, IsBehind, IsVersion, IsTargeted, IsMethod, IsFirst, IsBegun, Follows, EndsAtSpot}
-use Rattle.gd_frame.specs.Syntax.{Syntax, syntax_of, Reads, HasNoHead}
-use Rattle.gd_frame.proofs.Heads.{Plain, plain, reads_more}
+use Rattle.gd_frame.specs.Messages.{HasNoMessage}
+use Rattle.gd_frame.specs.Spots.{line_after, first_after, behind_version, target_after, character_after, spot_after, spot_of, is_request, is_known, EndsAtSpot}
+use Rattle.gd_frame.specs.Syntax.{Syntax, syntax_of, Reads, HasNoHead, MayBecomeHead}
+use Rattle.gd_frame.proofs.Characters.{one_byte, two_bytes, three_low, three_high, four_bytes}
+use Rattle.gd_frame.proofs.Following.{IsSection, IsEnded, IsReturned, IsValued, IsNamed, IsReasoned, IsCoded, IsBehind, IsVersion, IsTargeted, IsContinued, IsLed, IsMethod, IsBegun, Follows}
+use Rattle.gd_frame.proofs.Heads.{plain, reads_more}
+use Rattle.gd_frame.proofs.Parts.{broken_waits, broken_none}
 
 is_eq : (b k : ℕ) → (b == k) ≡ true → b ≡ k
 is_eq b k e = grind (arith, nat_tests)
@@ -63,8 +66,124 @@ begun_return kind t x =
 method_more : (kind : Kind) (least b : ℕ) (t : List ℕ) → is_token_byte b ≡ true → IsMethod kind 0 t → least ≤ 1 → IsMethod kind least (b ∷ t)
 method_more kind least b t is x few = (b ∷ x.0, x.1, omega arith, All-cons (λ b. is_token_byte b ≡ true) b x.0 is x.3, x.4, ap (λ (r : List ℕ). b ∷ r) x.5)
 
-target_more : (kind : Kind) (least b : ℕ) (t : List ℕ) → is_target_byte b ≡ true → IsTargeted kind 0 t → least ≤ 1 → IsTargeted kind least (b ∷ t)
-target_more kind least b t is x few = (b ∷ x.0, x.1, omega arith, All-cons (λ b. is_target_byte b ≡ true) b x.0 is x.3, x.4, ap (λ (r : List ℕ). b ∷ r) x.5)
+-- ---- a target's characters
+
+in_range : (low high b : ℕ) → is_in_range low high b ≡ true → (low ≤ b) × (b ≤ high)
+in_range low high b is = (grind (arith, nat_tests), grind (arith, nat_tests))
+
+pub high_uri : (b : ℕ) → 128 ≤ b → is_uri_byte b ≡ true
+high_uri b least = grind (arith, nat_tests)
+
+uri_none : AllPass is_uri_byte []
+uri_none = All-nil (λ b. is_uri_byte b ≡ true)
+
+uri_more : (b : ℕ) (bytes : List ℕ) → is_uri_byte b ≡ true → AllPass is_uri_byte bytes → AllPass is_uri_byte (b ∷ bytes)
+uri_more b bytes is all = All-cons (λ b. is_uri_byte b ≡ true) b bytes is all
+
+-- the bytes of a character before more of a target
+character : (kind : Kind) (front r : List ℕ) → 1 ≤ length front → AllPass is_uri_byte front → ((text : List ℕ) → IsUtf8 text → IsUtf8 (front ++ text)) → IsTargeted kind 0 r → IsTargeted kind 1 (front ++ r)
+character kind front r some all text x = (
+  front ++ x.0,
+  x.1,
+  omega (arith, some, length-append front x.0),
+  All-append (λ b. is_uri_byte b ≡ true) front x.0 all x.3,
+  text x.0 x.4,
+  x.5,
+  ap (λ (l : List ℕ). front ++ l) x.6 ∙ sym (append_assoc front x.0 (32 ∷ x.1)),
+)
+
+abbrev Leads : Kind → ℕ → List ℕ → Spot → Type 0
+Leads kind b t next = Follows kind next t → IsTargeted kind 1 (b ∷ t)
+
+lead_one : (kind : Kind) (b : ℕ) (t : List ℕ) → is_uri_byte b ≡ true → b < 128 → Leads kind b t spot.Target
+lead_one kind b t is small x = character kind (b ∷ []) t (lit≤ tt) (uri_more b [] is uri_none) (λ text u. one_byte b text small u) x
+
+lead_two : (kind : Kind) (b : ℕ) (t : List ℕ) → 194 ≤ b → b ≤ 223 → Leads kind b t spot.TargetOne
+lead_two kind b t least most x =
+    let c = x.0 in
+    let all = uri_more b (c ∷ []) (high_uri b (omega arith)) (uri_more c [] (high_uri c x.2) uri_none) in
+    subst (λ (l : List ℕ). IsTargeted kind 1 (b ∷ l)) (sym x.5) (character kind (b ∷ c ∷ []) x.1 (lit≤ tt) all (λ text u. two_bytes b c text least most x.2 x.3 u) x.4)
+
+-- with two later bytes
+lead_three : (kind : Kind) (b low high : ℕ) (t : List ℕ) → 128 ≤ b → 128 ≤ low
+    → ((c d : ℕ) (text : List ℕ) → low ≤ c → c ≤ high → 128 ≤ d → d ≤ 191 → IsUtf8 text → IsUtf8 (b ∷ c ∷ d ∷ text)) → IsLed kind low high 1 t → IsTargeted kind 1 (b ∷ t)
+lead_three kind b low high t b_high low_high text x =
+    let c = x.0 in
+    let y = x.4 in
+    let d = y.0 in
+    let all = uri_more b (c ∷ d ∷ []) (high_uri b b_high) (uri_more c (d ∷ []) (high_uri c (omega (arith, x.2))) (uri_more d [] (high_uri d y.2) uri_none)) in
+    subst (λ (l : List ℕ). IsTargeted kind 1 (b ∷ l)) (sym (x.5 ∙ ap (λ (l : List ℕ). c ∷ l) y.5))
+    (character kind (b ∷ c ∷ d ∷ []) y.1 (lit≤ tt) all (λ rest u. text c d rest x.2 x.3 y.2 y.3 u) y.4)
+
+-- with three
+lead_four : (kind : Kind) (b low high : ℕ) (t : List ℕ) → 128 ≤ b → 128 ≤ low
+    → ((c d e : ℕ) (text : List ℕ) → low ≤ c → c ≤ high → 128 ≤ d → d ≤ 191 → 128 ≤ e → e ≤ 191 → IsUtf8 text → IsUtf8 (b ∷ c ∷ d ∷ e ∷ text)) → IsLed kind low high 2 t → IsTargeted kind 1 (b ∷ t)
+lead_four kind b low high t b_high low_high text x =
+    let c = x.0 in
+    let y = x.4 in
+    let d = y.0 in
+    let z = y.4 in
+    let e = z.0 in
+    let all = uri_more b (c ∷ d ∷ e ∷ []) (high_uri b b_high)
+    (uri_more c (d ∷ e ∷ []) (high_uri c (omega (arith, x.2))) (uri_more d (e ∷ []) (high_uri d y.2) (uri_more e [] (high_uri e z.2) uri_none)))
+    in
+    subst (λ (l : List ℕ). IsTargeted kind 1 (b ∷ l)) (sym (x.5 ∙ ap (λ (l : List ℕ). c ∷ l) y.5 ∙ ap (λ (l : List ℕ). c ∷ d ∷ l) z.5))
+    (character kind (b ∷ c ∷ d ∷ e ∷ []) z.1 (lit≤ tt) all (λ rest u. text c d e rest x.2 x.3 y.2 y.3 z.2 z.3 u) z.4)
+
+lead_low : (kind : Kind) (b low high : ℕ) (t : List ℕ) → 224 ≤ b → b ≤ 237 → 128 ≤ low → high ≤ 191 → 14496 ≤ b * 64 + low → b * 64 + high < 15328 → IsLed kind low high 1 t → IsTargeted kind 1 (b ∷ t)
+lead_low kind b low high t b_least b_most low_high high_low least most =
+    lead_three kind b low high t (omega arith) low_high
+    (λ c d text c_least c_most d_least d_most u. three_low b c d text b_least b_most (omega arith) (omega arith) d_least d_most (omega arith) (omega arith) u)
+
+lead_high : (kind : Kind) (b : ℕ) (t : List ℕ) → 238 ≤ b → b ≤ 239 → IsLed kind 128 191 1 t → IsTargeted kind 1 (b ∷ t)
+lead_high kind b t b_least b_most =
+    lead_three kind b 128 191 t (omega arith) (lit≤ tt)
+    (λ c d text c_least c_most d_least d_most u. three_high b c d text b_least b_most c_least c_most d_least d_most u)
+
+lead_long : (kind : Kind) (b low high : ℕ) (t : List ℕ) → 240 ≤ b → b ≤ 244 → 128 ≤ low → high ≤ 191 → 15504 ≤ b * 64 + low → b * 64 + high < 15760 → IsLed kind low high 2 t → IsTargeted kind 1 (b ∷ t)
+lead_long kind b low high t b_least b_most low_high high_low least most =
+    lead_four kind b low high t (omega arith) low_high
+    (λ c d e text c_least c_most d_least d_most e_least e_most u. four_bytes b c d e text b_least b_most (omega arith) (omega arith) d_least d_most e_least e_most (omega arith) (omega arith) u)
+
+lead_test : (kind : Kind) (next other : Spot) (test : Bool) (b : ℕ) (t : List ℕ) → (test ≡ true → Leads kind b t next) → Leads kind b t other → Leads kind b t (cond test next other)
+lead_test kind next other test b t f g = cond_both test next other (Leads kind b t) f (λ _. g)
+
+small_byte : (b : ℕ) → nat_le b 127 ≡ true → b < 128
+small_byte b is = grind (arith, nat_tests)
+
+lead : (kind : Kind) (b : ℕ) (t : List ℕ) → is_uri_byte b ≡ true → Leads kind b t (target_after b)
+lead kind b t is =
+    let after4 : Spot = cond (b == 244) spot.TargetF4 spot.TargetBroken in
+    let after3 : Spot = cond (is_in_range 241 243 b) spot.TargetThree after4 in
+    let after0 : Spot = cond (b == 240) spot.TargetF0 after3 in
+    let after_high : Spot = cond (is_in_range 238 239 b) spot.TargetTwo after0 in
+    let after_ed : Spot = cond (b == 237) spot.TargetEd after_high in
+    let after_low : Spot = cond (is_in_range 225 236 b) spot.TargetTwo after_ed in
+    let after_e0 : Spot = cond (b == 224) spot.TargetE0 after_low in
+    let after_two : Spot = cond (is_in_range 194 223 b) spot.TargetOne after_e0 in
+    lead_test kind spot.Target after_two (nat_le b 127) b t (λ e. lead_one kind b t is (small_byte b e))
+    (lead_test kind spot.TargetOne after_e0 (is_in_range 194 223 b) b t (λ e. let r = in_range 194 223 b e in lead_two kind b t r.0 r.1)
+    (lead_test kind spot.TargetE0 after_low (b == 224) b t (λ e. let r = is_eq b 224 e in lead_low kind b 160 191 t (omega (arith, r)) (omega (arith, r)) (lit≤ tt) (lit≤ tt) (omega (arith, r)) (omega (arith, r)))
+    (lead_test kind spot.TargetTwo after_ed (is_in_range 225 236 b) b t (λ e. let r = in_range 225 236 b e in lead_low kind b 128 191 t (omega (arith, r.0)) (omega (arith, r.1)) (lit≤ tt) (lit≤ tt) (omega (arith, r.0)) (omega (arith, r.1)))
+    (lead_test kind spot.TargetEd after_high (b == 237) b t (λ e. let r = is_eq b 237 e in lead_low kind b 128 159 t (omega (arith, r)) (omega (arith, r)) (lit≤ tt) (lit≤ tt) (omega (arith, r)) (omega (arith, r)))
+    (lead_test kind spot.TargetTwo after0 (is_in_range 238 239 b) b t (λ e. let r = in_range 238 239 b e in lead_high kind b t r.0 r.1)
+    (lead_test kind spot.TargetF0 after3 (b == 240) b t (λ e. let r = is_eq b 240 e in lead_long kind b 144 191 t (omega (arith, r)) (omega (arith, r)) (lit≤ tt) (lit≤ tt) (omega (arith, r)) (omega (arith, r)))
+    (lead_test kind spot.TargetThree after4 (is_in_range 241 243 b) b t (λ e. let r = in_range 241 243 b e in lead_long kind b 128 191 t (omega (arith, r.0)) (omega (arith, r.1)) (lit≤ tt) (lit≤ tt) (omega (arith, r.0)) (omega (arith, r.1)))
+    (lead_test kind spot.TargetF4 spot.TargetBroken (b == 244) b t (λ e. let r = is_eq b 244 e in lead_long kind b 128 143 t (omega (arith, r)) (omega (arith, r)) (lit≤ tt) (lit≤ tt) (omega (arith, r)) (omega (arith, r)))
+    (λ x. absurd x)))))))))
+
+lead_any : (kind : Kind) (b : ℕ) (t : List ℕ) → is_uri_byte b ≡ true → Follows kind (target_after b) t → IsTargeted kind 0 (b ∷ t)
+lead_any kind b t is x = let y = lead kind b t is x in (y.0, y.1, omega arith, y.3, y.4, y.5, y.6)
+
+-- a later byte of a character
+character_step : (kind : Kind) (at next : Spot) (low high n b : ℕ) (t : List ℕ) → (IsLed kind low high n (b ∷ t) → Follows kind at (b ∷ t)) → (Follows kind next t → IsContinued kind n t)
+    → Goes kind at b t (character_after low high next b)
+character_step kind at next low high n b t f g =
+    class_step kind at (cond (is_in_range low high b) next spot.TargetBroken) spot.Unknown (is_uri_byte b) b t
+    (λ _. class_step kind at next spot.TargetBroken (is_in_range low high b) b t (λ e x. let r = in_range low high b e in f (b, t, r.0, r.1, g x, refl)) (λ x. absurd x))
+    (nowhere kind at b t)
+
+-- ---- the other parts
 
 version_more : (kind : Kind) (c : ℕ) (left t : List ℕ) → IsVersion kind left t → IsVersion kind (c ∷ left) (c ∷ t)
 version_more kind c left t x = (x.0, x.1, x.2, x.3, ap (λ (r : List ℕ). c ∷ r) x.4)
@@ -126,11 +245,18 @@ steps kind spot.EmptyReturn b t = on_step kind spot.EmptyReturn spot.Empty spot.
 steps kind spot.Method b t =
     class_step kind spot.Method spot.Method (cond (b == 32) spot.TargetStart spot.Unknown) (is_token_byte b) b t (λ e x. method_more kind 0 b t e x (lit≤ tt))
     (on_step kind spot.Method spot.TargetStart spot.Unknown b 32 t (λ x. ([], t, lit≤ tt, All-nil (λ b. is_token_byte b ≡ true), x, refl)) (nowhere kind spot.Method b t))
-steps kind spot.TargetStart b t =
-    class_step kind spot.TargetStart spot.Target spot.Unknown (is_target_byte b) b t (λ e x. target_more kind 1 b t e x (lit≤ tt)) (nowhere kind spot.TargetStart b t)
+steps kind spot.TargetStart b t = class_step kind spot.TargetStart (target_after b) spot.Unknown (is_uri_byte b) b t (λ e. lead kind b t e) (nowhere kind spot.TargetStart b t)
 steps kind spot.Target b t =
-    class_step kind spot.Target spot.Target (cond (b == 32) spot.Version0 spot.Unknown) (is_target_byte b) b t (λ e x. target_more kind 0 b t e x (lit≤ tt))
-    (on_step kind spot.Target spot.Version0 spot.Unknown b 32 t (λ x. ([], t, lit≤ tt, All-nil (λ b. is_target_byte b ≡ true), x, refl)) (nowhere kind spot.Target b t))
+    class_step kind spot.Target (target_after b) (cond (b == 32) spot.Version0 spot.Unknown) (is_uri_byte b) b t (λ e. lead_any kind b t e)
+    (on_step kind spot.Target spot.Version0 spot.Unknown b 32 t (λ x. ([], t, lit≤ tt, uri_none, IsUtf8-nil, x, refl)) (nowhere kind spot.Target b t))
+steps kind spot.TargetOne b t = character_step kind spot.TargetOne spot.Target 128 191 0 b t (λ x. x) (λ x. x)
+steps kind spot.TargetTwo b t = character_step kind spot.TargetTwo spot.TargetOne 128 191 1 b t (λ x. x) (λ x. x)
+steps kind spot.TargetThree b t = character_step kind spot.TargetThree spot.TargetTwo 128 191 2 b t (λ x. x) (λ x. x)
+steps kind spot.TargetE0 b t = character_step kind spot.TargetE0 spot.TargetOne 160 191 1 b t (λ x. x) (λ x. x)
+steps kind spot.TargetEd b t = character_step kind spot.TargetEd spot.TargetOne 128 159 1 b t (λ x. x) (λ x. x)
+steps kind spot.TargetF0 b t = character_step kind spot.TargetF0 spot.TargetTwo 144 191 2 b t (λ x. x) (λ x. x)
+steps kind spot.TargetF4 b t = character_step kind spot.TargetF4 spot.TargetTwo 128 143 2 b t (λ x. x) (λ x. x)
+steps kind spot.TargetBroken b t = class_step kind spot.TargetBroken spot.TargetBroken spot.Unknown (is_uri_byte b) b t (λ e x. absurd x) (nowhere kind spot.TargetBroken b t)
 steps kind spot.Version0 b t = on_step kind spot.Version0 spot.Version1 spot.Unknown b 72 t (version_more kind 72 (codes "TTP/1.") t) (nowhere kind spot.Version0 b t)
 steps kind spot.Version1 b t = on_step kind spot.Version1 spot.Version2 spot.Unknown b 84 t (version_more kind 84 (codes "TP/1.") t) (nowhere kind spot.Version1 b t)
 steps kind spot.Version2 b t = on_step kind spot.Version2 spot.Version3 spot.Unknown b 84 t (version_more kind 84 (codes "P/1.") t) (nowhere kind spot.Version2 b t)
@@ -166,32 +292,23 @@ walk : (kind : Kind) (at : Spot) (piece t : List ℕ) → Follows kind (spot_of 
 walk kind at [] t x = x
 walk kind at (b ∷ piece) t x = steps kind at b (piece ++ t) (walk kind (spot_after kind at b) piece t x)
 
-pub goes_on : (kind : Kind) (at : Spot) (held piece : List ℕ) → EndsAtSpot kind at held → EndsAtSpot kind (spot_of kind at piece) (held ++ piece)
-goes_on kind at held piece ends t x =
-    let h = ends (piece ++ t) (walk kind at piece t x) in
-    (h.0, subst (λ b. Reads (syntax_of kind) b h.0 []) (sym (append_assoc held piece t)) h.1)
+pub spots_append : (kind : Kind) (at : Spot) (a b : List ℕ) → spot_of kind at (a ++ b) ≡ spot_of kind (spot_of kind at a) b
+spots_append kind at [] b = refl
+spots_append kind at (c ∷ a) b = spots_append kind (spot_after kind at c) a b
 
-pub lost : (kind : Kind) (bytes : List ℕ) → EndsAtSpot kind spot.Unknown bytes
-lost kind bytes t x = absurd x
+pub goes_on : (kind : Kind) (at : Spot) (held piece : List ℕ) → EndsAtSpot kind at held → EndsAtSpot kind (spot_of kind at piece) (held ++ piece)
+goes_on kind at held piece ends = spots_append kind spot.Empty held piece ∙ ap (λ (s : Spot). spot_of kind s piece) ends
+
+pub begins : (kind : Kind) → EndsAtSpot kind spot.Empty []
+begins kind = refl
 
 -- ---- at the beginning
-
-target_uri : (b : ℕ) → is_target_byte b ≡ true → is_uri_byte b ≡ true
-target_uri b is = grind (arith, nat_tests)
-
-target_small : (b : ℕ) → is_target_byte b ≡ true → b < 128
-target_small b is = grind (arith, nat_tests)
-
-ascii : (text : List ℕ) → AllPass is_target_byte text → IsAscii text
-ascii [] all i = omega arith
-ascii (b ∷ text) all zero = target_small b (All-head (λ b. is_target_byte b ≡ true) b text all)
-ascii (b ∷ text) all (suc i) = ascii text (All-tail (λ b. is_target_byte b ≡ true) b text all) i
 
 request_begun : (t : List ℕ) → IsBegun Request t → (h : RequestHead) × Reads (syntax_of Request) t h []
 request_begun t x =
     let m = x.2 in
     let u = m.4 in
-    let v = u.4 in
+    let v = u.5 in
     let e = v.3 in
     let s = e.2 in
     let h : RequestHead = record { blank = x.0; method = m.0; target = u.0; minor = v.0; line_end = e.0; fields = s.0; last = s.1 } in (
@@ -199,12 +316,12 @@ request_begun t x =
       (
         record {
           method = (m.2, m.3);
-          target = (u.2, All-weaker (λ b. is_target_byte b ≡ true) (λ b. is_uri_byte b ≡ true) target_uri u.0 u.3);
-          target_text = IsUtf8-from_ascii u.0 (ascii u.0 u.3);
+          target = (u.2, u.3);
+          target_text = u.4;
           minor = v.2;
           fields = s.2;
         },
-        x.3 ∙ ap (λ (r : List ℕ). print_blank x.0 ++ r) m.5 ∙ ap (λ (r : List ℕ). print_blank x.0 ++ (m.0 ++ 32 ∷ r)) u.5
+        x.3 ∙ ap (λ (r : List ℕ). print_blank x.0 ++ r) m.5 ∙ ap (λ (r : List ℕ). print_blank x.0 ++ (m.0 ++ 32 ∷ r)) u.6
             ∙ ap (λ (r : List ℕ). print_blank x.0 ++ (m.0 ++ 32 ∷ (u.0 ++ 32 ∷ r))) v.4
             ∙ ap (λ (r : List ℕ). print_blank x.0 ++ (m.0 ++ 32 ∷ (u.0 ++ 32 ∷ (print_version v.0 ++ r)))) e.3
             ∙ ap (λ (r : List ℕ). print_blank x.0 ++ (m.0 ++ 32 ∷ (u.0 ++ 32 ∷ (print_version v.0 ++ (print_end e.0 ++ r))))) (s.3 ∙ sym (append-nil (print_section s.0 s.1)))
@@ -251,9 +368,13 @@ reply_begun t x =
     in
     reply_by t x.0 v.0 d.0 d.1 v.2 d.2 d.3 front d.4
 
-pub begins : (kind : Kind) → EndsAtSpot kind spot.Empty []
-begins Request t x = request_begun t x
-begins Reply t x = reply_begun t x
+begun : (kind : Kind) (t : List ℕ) → IsBegun kind t → (h : (syntax_of kind).Head) × Reads (syntax_of kind) t h []
+begun Request t x = request_begun t x
+begun Reply t x = reply_begun t x
+
+-- whatever may follow there makes a head of the bytes
+makes : (kind : Kind) (at : Spot) (bytes t : List ℕ) → EndsAtSpot kind at bytes → Follows kind at t → (h : (syntax_of kind).Head) × Reads (syntax_of kind) (bytes ++ t) h []
+makes kind at bytes t ends x = begun kind (bytes ++ t) (walk kind spot.Empty bytes t (subst (λ (s : Spot). Follows kind s t) (sym ends) x))
 
 -- ---- an open head
 
@@ -270,9 +391,9 @@ digits_pass (suc n) = All-cons (λ b. is_ascii_digit b ≡ true) 48 (replicate n
 coded_text : (n : ℕ) → IsCoded n (replicate n 48 ++ codes "\r\n\r\n")
 coded_text n = (replicate n 48, codes "\r\n\r\n", length-replicate n 48, digits_pass n, inl ended_text, refl)
 
--- bytes that may follow
+-- bytes that may follow, or what waits for the end of a target
 abbrev More : Kind → Spot → Type 0
-More kind at = (t : List ℕ) × Follows kind at t × (0 < length t)
+More kind at = ((t : List ℕ) × Follows kind at t × (0 < length t)) ⊎ ((kind ≡ Request) × (at ≡ spot.TargetBroken))
 
 behind : (kind : Kind) → (r : List ℕ) × IsBehind kind r
 behind Request = (codes "\r\n\r\n", ended_text)
@@ -286,7 +407,17 @@ version_text kind left =
 target_text : (kind : Kind) → (t : List ℕ) × IsTargeted kind 1 t × (0 < length t)
 target_text kind =
     let v = version_text kind (codes "HTTP/1.") in
-    (codes "/" ++ 32 ∷ v.0, (codes "/", v.0, lit≤ tt, All-cons (λ b. is_target_byte b ≡ true) 47 [] refl (All-nil (λ b. is_target_byte b ≡ true)), v.1, refl), omega arith)
+    (codes "/" ++ 32 ∷ v.0, (codes "/", v.0, lit≤ tt, uri_more 47 [] refl uri_none, one_byte 47 [] (lit< tt) IsUtf8-nil, v.1, refl), omega arith)
+
+target_rest : (kind : Kind) → (t : List ℕ) × IsTargeted kind 0 t × (0 < length t)
+target_rest kind = let u = target_text kind in (u.0, (u.1.0, u.1.1, omega arith, u.1.3, u.1.4, u.1.5, u.1.6), u.2)
+
+continued_text : (kind : Kind) (n : ℕ) → (t : List ℕ) × IsContinued kind n t
+continued_text kind zero = let u = target_rest kind in (u.0, u.1)
+continued_text kind (suc n) = let x = continued_text kind n in (128 ∷ x.0, (128, x.0, lit≤ tt, lit≤ tt, x.1, refl))
+
+led_text : (kind : Kind) (low high n : ℕ) → low ≤ high → (t : List ℕ) × IsLed kind low high n t × (0 < length t)
+led_text kind low high n some = let x = continued_text kind n in (low ∷ x.0, (low, x.0, omega arith, some, x.1, refl), omega arith)
 
 method_text : (kind : Kind) → (t : List ℕ) × IsMethod kind 0 t × (0 < length t)
 method_text kind = let u = target_text kind in (32 ∷ u.0, ([], u.0, lit≤ tt, All-nil (λ b. is_token_byte b ≡ true), u.1, refl), omega arith)
@@ -299,44 +430,60 @@ first_text : (kind : Kind) → (t : List ℕ) × IsBegun kind t × (0 < length t
 first_text Request = let m = method_text Request in (71 ∷ m.0, ([], 71 ∷ m.0, method_more Request 1 71 m.0 token_byte m.1 (lit≤ tt), refl), omega arith)
 first_text Reply = let v = version_text Reply (codes "HTTP/1.") in (v.0, ([], v.0, v.1, refl), v.2)
 
-more : (kind : Kind) (at : Spot) → is_known at ≡ true → More kind at
-more kind spot.Empty known = first_text kind
-more kind spot.EmptyReturn known = let f = first_text kind in (10 ∷ f.0, (f.0, f.1, refl), omega arith)
-more kind spot.Method known = method_text kind
-more kind spot.TargetStart known = target_text kind
-more kind spot.Target known = let u = target_text kind in (u.0, (u.1.0, u.1.1, omega arith, u.1.3, u.1.4, u.1.5), u.2)
-more kind spot.Version0 known = version_text kind (codes "HTTP/1.")
-more kind spot.Version1 known = version_text kind (codes "TTP/1.")
-more kind spot.Version2 known = version_text kind (codes "TP/1.")
-more kind spot.Version3 known = version_text kind (codes "P/1.")
-more kind spot.Version4 known = version_text kind (codes "/1.")
-more kind spot.Version5 known = version_text kind (codes "1.")
-more kind spot.Version6 known = version_text kind (codes ".")
-more kind spot.Version7 known = version_text kind []
-more kind spot.Status known = (32 ∷ (replicate 3 48 ++ codes "\r\n\r\n"), (replicate 3 48 ++ codes "\r\n\r\n", coded_text 3, refl), lit< tt)
-more kind spot.Code0 known = (replicate 3 48 ++ codes "\r\n\r\n", coded_text 3, lit< tt)
-more kind spot.Code1 known = (replicate 2 48 ++ codes "\r\n\r\n", coded_text 2, lit< tt)
-more kind spot.Code2 known = (replicate 1 48 ++ codes "\r\n\r\n", coded_text 1, lit< tt)
-more kind spot.Code3 known = (codes "\r\n\r\n", inl ended_text, lit< tt)
-more kind spot.LineEnd known = (codes "\r\n\r\n", ended_text, lit< tt)
-more kind spot.Return known = (codes "\n\r\n", (codes "\r\n", section_text, refl), lit< tt)
-more kind spot.Line known = (codes "\r\n", section_text, lit< tt)
-more kind spot.Name known = (codes ":\r\n\r\n", ([], codes "\r\n\r\n", All-nil (λ b. is_token_byte b ≡ true), value_none (codes "\r\n\r\n") ended_text, refl), lit< tt)
-more kind spot.Value known = (codes "\r\n\r\n", value_none (codes "\r\n\r\n") ended_text, lit< tt)
-more kind spot.EndReturn known = (codes "\n", refl, lit< tt)
+is_asked : (kind : Kind) → is_request kind ≡ true → kind ≡ Request
+is_asked Request is = refl
+is_asked Reply is = absurd cc
+
+more : (kind : Kind) (at : Spot) → is_known kind at ≡ true → More kind at
+more kind spot.Empty known = inl (first_text kind)
+more kind spot.EmptyReturn known = inl (let f = first_text kind in (10 ∷ f.0, (f.0, f.1, refl), omega arith))
+more kind spot.Method known = inl (method_text kind)
+more kind spot.TargetStart known = inl (target_text kind)
+more kind spot.Target known = inl (target_rest kind)
+more kind spot.TargetOne known = inl (led_text kind 128 191 0 (lit≤ tt))
+more kind spot.TargetTwo known = inl (led_text kind 128 191 1 (lit≤ tt))
+more kind spot.TargetThree known = inl (led_text kind 128 191 2 (lit≤ tt))
+more kind spot.TargetE0 known = inl (led_text kind 160 191 1 (lit≤ tt))
+more kind spot.TargetEd known = inl (led_text kind 128 159 1 (lit≤ tt))
+more kind spot.TargetF0 known = inl (led_text kind 144 191 2 (lit≤ tt))
+more kind spot.TargetF4 known = inl (led_text kind 128 143 2 (lit≤ tt))
+more kind spot.TargetBroken known = inr (is_asked kind known, refl)
+more kind spot.Version0 known = inl (version_text kind (codes "HTTP/1."))
+more kind spot.Version1 known = inl (version_text kind (codes "TTP/1."))
+more kind spot.Version2 known = inl (version_text kind (codes "TP/1."))
+more kind spot.Version3 known = inl (version_text kind (codes "P/1."))
+more kind spot.Version4 known = inl (version_text kind (codes "/1."))
+more kind spot.Version5 known = inl (version_text kind (codes "1."))
+more kind spot.Version6 known = inl (version_text kind (codes "."))
+more kind spot.Version7 known = inl (version_text kind [])
+more kind spot.Status known = inl (32 ∷ (replicate 3 48 ++ codes "\r\n\r\n"), (replicate 3 48 ++ codes "\r\n\r\n", coded_text 3, refl), lit< tt)
+more kind spot.Code0 known = inl (replicate 3 48 ++ codes "\r\n\r\n", coded_text 3, lit< tt)
+more kind spot.Code1 known = inl (replicate 2 48 ++ codes "\r\n\r\n", coded_text 2, lit< tt)
+more kind spot.Code2 known = inl (replicate 1 48 ++ codes "\r\n\r\n", coded_text 1, lit< tt)
+more kind spot.Code3 known = inl (codes "\r\n\r\n", inl ended_text, lit< tt)
+more kind spot.LineEnd known = inl (codes "\r\n\r\n", ended_text, lit< tt)
+more kind spot.Return known = inl (codes "\n\r\n", (codes "\r\n", section_text, refl), lit< tt)
+more kind spot.Line known = inl (codes "\r\n", section_text, lit< tt)
+more kind spot.Name known = inl (codes ":\r\n\r\n", ([], codes "\r\n\r\n", All-nil (λ b. is_token_byte b ≡ true), value_none (codes "\r\n\r\n") ended_text, refl), lit< tt)
+more kind spot.Value known = inl (codes "\r\n\r\n", value_none (codes "\r\n\r\n") ended_text, lit< tt)
+more kind spot.EndReturn known = inl (codes "\n", refl, lit< tt)
 more kind spot.Unknown known = absurd cc
 
-pub open_there : (kind : Kind) (at : Spot) (bytes : List ℕ) → EndsAtSpot kind at bytes → is_known at ≡ true → length bytes < 65536 → HasOpenHead (syntax_of kind) bytes
-open_there kind at bytes ends known short =
-    let m = more kind at known in
-    let x = ends m.0 m.1 in
-    record {
-      short = short;
-      none = λ h rest reads.
+open_by : (kind : Kind) (at : Spot) (bytes : List ℕ) → EndsAtSpot kind at bytes → More kind at → HasNoHead (syntax_of kind) bytes × MayBecomeHead (syntax_of kind) bytes
+open_by kind at bytes ends (inl m) =
+    let x = makes kind at bytes m.0 ends m.1 in (
+      λ h rest reads.
           let same = (plain kind).unique (bytes ++ m.0) h x.0 (rest ++ m.0) [] (reads_more (syntax_of kind) bytes h rest m.0 reads) x.1 in
-          omega (arith, ap length same.1, length-append rest m.0, m.2);
-      may = inl (m.0, x.0, x.1);
-    }
+          omega (arith, ap length same.1, length-append rest m.0, m.2),
+      inl (m.0, x.0, x.1),
+    )
+open_by kind at bytes ends (inr m) =
+    let e : EndsAtSpot Request spot.TargetBroken bytes = subst (λ (k : Kind). EndsAtSpot k spot.TargetBroken bytes) m.0 (ends ∙ m.1) in
+    subst (λ (k : Kind). HasNoHead (syntax_of k) bytes × MayBecomeHead (syntax_of k) bytes) (sym m.0) (broken_none bytes e, inr (broken_waits bytes e))
+
+-- no head is whole there, and more bytes may make one
+pub open_there : (kind : Kind) (at : Spot) (bytes : List ℕ) → EndsAtSpot kind at bytes → is_known kind at ≡ true → HasNoHead (syntax_of kind) bytes × MayBecomeHead (syntax_of kind) bytes
+open_there kind at bytes ends known = open_by kind at bytes ends (more kind at known)
 
 pub no_message : (s : Syntax) (bytes : List ℕ) → HasNoHead s bytes → HasNoMessage s bytes
 no_message s bytes none front rest e x =

@@ -3,10 +3,11 @@ use Rattle.std.proofs.Common.{true≢false, ◌≡◌, ℕ, Bool, true, false, �
 use Rattle.std.proofs.lemmas.Bool.Decides.{nat_tests}
 use Rattle.std.proofs.lemmas.List.Concat.{flat_map-cons}
 use Rattle.std.proofs.lemmas.List.Elements.{All-nil, All-cons, All-head, All-tail}
-use Rattle.httparse.specs.Grammar.{LineEnd, crlf, lf, print_end, print_blank, IsToken, AllPass, is_token_byte, is_uri_byte, EndsInTarget}
+use Rattle.httparse.specs.Grammar.{LineEnd, crlf, lf, print_end, print_blank, print_version, print_section, IsToken, AllPass, is_token_byte, is_uri_byte, EndsInTarget, HasNoRequest}
+use Rattle.httparse.proofs.GrammarLemmas.{print_request-append}
 use Rattle.gd_frame.specs.declared.target.Part.{Part}
 use Rattle.gd_frame.specs.declared.target.Part.TheVariants.{Blank, Return, Method, Target, Other}
-use Rattle.gd_frame.specs.Targets.{part_of}
+use Rattle.gd_frame.specs.Targets.{part_after, part_of}
 
 other_stays : (bytes : List ℕ) → part_of Other bytes ≡ Target → ⊥
 other_stays [] e = absurd cc
@@ -81,7 +82,7 @@ told (b ∷ bytes) =
 pub ends : (bytes : List ℕ) → part_of Blank bytes ≡ Target → EndsInTarget bytes
 ends bytes e = (told bytes).0 e
 
-blank_none : is_token_byte 32 ≡ false
+pub blank_none : is_token_byte 32 ≡ false
 unfolding is_token_byte
 blank_none = refl
 
@@ -89,13 +90,16 @@ feed_none : is_token_byte 10 ≡ false
 unfolding is_token_byte
 feed_none = refl
 
-return_none : is_token_byte 13 ≡ false
+pub return_none : is_token_byte 13 ≡ false
 unfolding is_token_byte
 return_none = refl
 
 differs : (b k : ℕ) (t : Bool) → (b == k) ≡ t → is_token_byte b ≡ true → is_token_byte k ≡ false → t ≡ false
 differs b k true is token other = absurd (true≢false (sym token ∙ ap is_token_byte (is_eq b k is) ∙ other))
 differs b k false is token other = refl
+
+pub token_differs : (b : ℕ) → is_token_byte b ≡ true → ((b == 10) ≡ false) × ((b == 13) ≡ false)
+token_differs b is = (differs b 10 (b == 10) refl is feed_none, differs b 13 (b == 13) refl is return_none)
 
 uri_back : (t : List ℕ) → AllPass is_uri_byte t → part_of Target t ≡ Target
 uri_back [] all = refl
@@ -131,3 +135,24 @@ ended bytes x = ap (part_of Blank) x.5 ∙ blank_back x.0 x.1 x.2 x.3 x.4
 
 pub elsewhere : (bytes : List ℕ) (at : Part) → at ≡ part_of Blank bytes → (at ≡ Target → ⊥) → EndsInTarget bytes → ⊥
 elsewhere bytes at is other x = other (is ∙ ended bytes x)
+
+parts_append : (at : Part) (a b : List ℕ) → part_of at (a ++ b) ≡ part_of (part_of at a) b
+parts_append at [] b = refl
+parts_append at (c ∷ a) b = parts_append (part_after at c) a b
+
+-- behind a head's target the bytes end inside none
+past_target : (blank : List LineEnd) (m u tail : List ℕ) → IsToken m → AllPass is_uri_byte u → part_of Blank (print_blank blank ++ (m ++ 32 ∷ (u ++ 32 ∷ tail))) ≡ Target → ⊥
+past_target blank m u tail token all e =
+    let front : List ℕ = (print_blank blank ++ m) ++ 32 ∷ u in
+    let whole : front ++ 32 ∷ tail ≡ print_blank blank ++ (m ++ 32 ∷ (u ++ 32 ∷ tail)) =
+    append_assoc (print_blank blank ++ m) (32 ∷ u) (32 ∷ tail) ∙ append_assoc (print_blank blank) m (32 ∷ (u ++ 32 ∷ tail))
+    in
+    let there : part_of Blank (front ++ 32 ∷ tail) ≡ part_of Target (32 ∷ tail) =
+    parts_append Blank front (32 ∷ tail) ∙ ap (λ (at : Part). part_of at (32 ∷ tail)) (blank_back blank m u token all)
+    in
+    other_stays tail (sym there ∙ ap (part_of Blank) whole ∙ e)
+
+pub no_head : (bytes : List ℕ) → part_of Blank bytes ≡ Target → HasNoRequest bytes
+no_head bytes e h rest reads =
+    past_target h.blank h.method h.target (print_version h.minor ++ (print_end h.line_end ++ (print_section h.fields h.last ++ rest))) reads.0.method reads.0.target.1
+    (sym (ap (part_of Blank) (reads.1 ∙ print_request-append h rest)) ∙ e)

@@ -1,16 +1,12 @@
--- Where in a head bytes end, told byte by byte, and what may follow there.
-use Rattle.std.specs.Prelude.{◌≡◌, ℕ, ◌+◌, ◌<◌, ◌≤◌, ◌⊎◌, Bool, true, false, ◌&&◌, ◌==◌, List, [], ◌∷◌, ◌++◌, length, nat_le, codes, All, if◌then◌else◌}
+-- Where in a head bytes end, told byte by byte.
+use Rattle.std.specs.Prelude.{◌≡◌, ℕ, Bool, true, false, ◌==◌, nat_le, List, [], ◌∷◌, if◌then◌else◌}
+use Rattle.std.specs.Int.{is_in_range}
 use Rattle.std.specs.Char.{is_ascii_digit}
-use Rattle.httparse.specs.Grammar.{is_token_byte, is_value_byte, IsToken, AllPass, LineEnd, print_end, print_blank, Field, IsField, print_section}
+use Rattle.httparse.specs.Grammar.{is_token_byte, is_uri_byte, is_value_byte}
 use Rattle.gd_frame.specs.declared.message.Kind.{Kind}
 use Rattle.gd_frame.specs.declared.message.Kind.TheVariants.{Request, Reply}
 use Rattle.gd_frame.specs.declared.spot.Spot.{Spot}
 use Rattle.gd_frame.specs.declared.spot.Spot.TheVariants as spot
-use Rattle.gd_frame.specs.Syntax.{Syntax, syntax_of, Reads}
-
--- a byte of a target in ASCII
-abbrev pub is_target_byte : ℕ → Bool
-is_target_byte b = nat_le 33 b && nat_le b 126
 
 -- ---- where the next byte stands
 
@@ -26,12 +22,38 @@ abbrev pub behind_version : Kind → Spot
 behind_version Request = spot.LineEnd
 behind_version Reply = spot.Status
 
+-- by the first byte of a character (RFC 3629, section 4)
+abbrev pub target_after : ℕ → Spot
+target_after b =
+    if nat_le b 127 then spot.Target
+    else (if is_in_range 194 223 b then spot.TargetOne
+    else (if b == 224 then spot.TargetE0
+    else (if is_in_range 225 236 b then spot.TargetTwo
+    else (if b == 237 then spot.TargetEd
+    else (if is_in_range 238 239 b then spot.TargetTwo
+    else (if b == 240 then spot.TargetF0
+    else (if is_in_range 241 243 b then spot.TargetThree
+    else (if b == 244 then spot.TargetF4
+    else spot.TargetBroken))))))))
+
+-- by a later byte of a character, which has to be one of these
+abbrev pub character_after : ℕ → ℕ → Spot → ℕ → Spot
+character_after low high next b = if is_uri_byte b then (if is_in_range low high b then next else spot.TargetBroken) else spot.Unknown
+
 abbrev pub spot_after : Kind → Spot → ℕ → Spot
 spot_after kind spot.Empty b = if b == 10 then spot.Empty else (if b == 13 then spot.EmptyReturn else first_after kind b)
 spot_after kind spot.EmptyReturn b = if b == 10 then spot.Empty else spot.Unknown
 spot_after kind spot.Method b = if is_token_byte b then spot.Method else (if b == 32 then spot.TargetStart else spot.Unknown)
-spot_after kind spot.TargetStart b = if is_target_byte b then spot.Target else spot.Unknown
-spot_after kind spot.Target b = if is_target_byte b then spot.Target else (if b == 32 then spot.Version0 else spot.Unknown)
+spot_after kind spot.TargetStart b = if is_uri_byte b then target_after b else spot.Unknown
+spot_after kind spot.Target b = if is_uri_byte b then target_after b else (if b == 32 then spot.Version0 else spot.Unknown)
+spot_after kind spot.TargetOne b = character_after 128 191 spot.Target b
+spot_after kind spot.TargetTwo b = character_after 128 191 spot.TargetOne b
+spot_after kind spot.TargetThree b = character_after 128 191 spot.TargetTwo b
+spot_after kind spot.TargetE0 b = character_after 160 191 spot.TargetOne b
+spot_after kind spot.TargetEd b = character_after 128 159 spot.TargetOne b
+spot_after kind spot.TargetF0 b = character_after 144 191 spot.TargetTwo b
+spot_after kind spot.TargetF4 b = character_after 128 143 spot.TargetTwo b
+spot_after kind spot.TargetBroken b = if is_uri_byte b then spot.TargetBroken else spot.Unknown
 spot_after kind spot.Version0 b = if b == 72 then spot.Version1 else spot.Unknown
 spot_after kind spot.Version1 b = if b == 84 then spot.Version2 else spot.Unknown
 spot_after kind spot.Version2 b = if b == 84 then spot.Version3 else spot.Unknown
@@ -53,92 +75,21 @@ spot_after kind spot.Value b = if is_value_byte b then spot.Value else line_afte
 spot_after kind spot.EndReturn b = spot.Unknown
 spot_after kind spot.Unknown b = spot.Unknown
 
-abbrev pub is_known : Spot → Bool
-is_known spot.Unknown = false
-is_known at = true
+abbrev pub is_request : Kind → Bool
+is_request Request = true
+is_request Reply = false
+
+-- whether the head is open there; a reply has no target
+abbrev pub is_known : Kind → Spot → Bool
+is_known kind spot.Unknown = false
+is_known kind spot.TargetBroken = is_request kind
+is_known kind at = true
 
 -- where the last of some bytes stands
 abbrev pub spot_of : Kind → Spot → List ℕ → Spot
 spot_of kind at [] = at
 spot_of kind at (b ∷ bytes) = spot_of kind (spot_after kind at b) bytes
 
--- ---- what may follow there, to the end of the head
-
-abbrev pub IsSection : List ℕ → Type 0
-IsSection t = (fields : List Field) × (last : LineEnd) × All IsField fields × (t ≡ print_section fields last)
-
--- a line ends, and fields follow
-abbrev pub IsEnded : List ℕ → Type 0
-IsEnded t = (end : LineEnd) × (r : List ℕ) × IsSection r × (t ≡ print_end end ++ r)
-
-abbrev pub IsReturned : List ℕ → Type 0
-IsReturned t = (r : List ℕ) × IsSection r × (t ≡ 10 ∷ r)
-
-abbrev pub IsValued : List ℕ → Type 0
-IsValued t = (raw : List ℕ) × (r : List ℕ) × AllPass is_value_byte raw × IsEnded r × (t ≡ raw ++ r)
-
-abbrev pub IsNamed : List ℕ → Type 0
-IsNamed t = (name : List ℕ) × (r : List ℕ) × AllPass is_token_byte name × IsValued r × (t ≡ name ++ 58 ∷ r)
-
-abbrev pub IsReasoned : List ℕ → Type 0
-IsReasoned t = IsEnded t ⊎ ((r : List ℕ) × IsValued r × (t ≡ 32 ∷ r))
-
--- so many digits, and what is behind them
-abbrev pub IsCoded : ℕ → List ℕ → Type 0
-IsCoded n t = (digits : List ℕ) × (r : List ℕ) × (length digits ≡ n) × AllPass is_ascii_digit digits × IsReasoned r × (t ≡ digits ++ r)
-
-abbrev pub IsStatus : List ℕ → Type 0
-IsStatus t = (r : List ℕ) × IsCoded 3 r × (t ≡ 32 ∷ r)
-
-abbrev pub IsBehind : Kind → List ℕ → Type 0
-IsBehind Request t = IsEnded t
-IsBehind Reply t = IsStatus t
-
--- what is left of `HTTP/1.`, the digit, and what is behind it
-abbrev pub IsVersion : Kind → List ℕ → List ℕ → Type 0
-IsVersion kind left t = (minor : ℕ) × (r : List ℕ) × (minor ≤ 1) × IsBehind kind r × (t ≡ left ++ (48 + minor) ∷ r)
-
--- more of a target, of so many bytes at least
-abbrev pub IsTargeted : Kind → ℕ → List ℕ → Type 0
-IsTargeted kind least t = (u : List ℕ) × (r : List ℕ) × (least ≤ length u) × AllPass is_target_byte u × IsVersion kind (codes "HTTP/1.") r × (t ≡ u ++ 32 ∷ r)
-
-abbrev pub IsMethod : Kind → ℕ → List ℕ → Type 0
-IsMethod kind least t = (m : List ℕ) × (r : List ℕ) × (least ≤ length m) × AllPass is_token_byte m × IsTargeted kind 1 r × (t ≡ m ++ 32 ∷ r)
-
-abbrev pub IsFirst : Kind → List ℕ → Type 0
-IsFirst Request t = IsMethod Request 1 t
-IsFirst Reply t = IsVersion Reply (codes "HTTP/1.") t
-
-abbrev pub IsBegun : Kind → List ℕ → Type 0
-IsBegun kind t = (blank : List LineEnd) × (r : List ℕ) × IsFirst kind r × (t ≡ print_blank blank ++ r)
-
-abbrev pub Follows : Kind → Spot → List ℕ → Type 0
-Follows kind spot.Empty t = IsBegun kind t
-Follows kind spot.EmptyReturn t = (r : List ℕ) × IsBegun kind r × (t ≡ 10 ∷ r)
-Follows kind spot.Method t = IsMethod kind 0 t
-Follows kind spot.TargetStart t = IsTargeted kind 1 t
-Follows kind spot.Target t = IsTargeted kind 0 t
-Follows kind spot.Version0 t = IsVersion kind (codes "HTTP/1.") t
-Follows kind spot.Version1 t = IsVersion kind (codes "TTP/1.") t
-Follows kind spot.Version2 t = IsVersion kind (codes "TP/1.") t
-Follows kind spot.Version3 t = IsVersion kind (codes "P/1.") t
-Follows kind spot.Version4 t = IsVersion kind (codes "/1.") t
-Follows kind spot.Version5 t = IsVersion kind (codes "1.") t
-Follows kind spot.Version6 t = IsVersion kind (codes ".") t
-Follows kind spot.Version7 t = IsVersion kind [] t
-Follows kind spot.Status t = IsStatus t
-Follows kind spot.Code0 t = IsCoded 3 t
-Follows kind spot.Code1 t = IsCoded 2 t
-Follows kind spot.Code2 t = IsCoded 1 t
-Follows kind spot.Code3 t = IsReasoned t
-Follows kind spot.LineEnd t = IsEnded t
-Follows kind spot.Return t = IsReturned t
-Follows kind spot.Line t = IsSection t
-Follows kind spot.Name t = IsNamed t
-Follows kind spot.Value t = IsValued t
-Follows kind spot.EndReturn t = t ≡ 10 ∷ []
-Follows kind spot.Unknown t = ⊥
-
--- the bytes end at this spot of a head: whatever may follow there makes one of them
+-- the bytes end at this spot of a head
 abbrev pub EndsAtSpot : Kind → Spot → List ℕ → Type 0
-EndsAtSpot kind at bytes = (t : List ℕ) → Follows kind at t → (h : (syntax_of kind).Head) × Reads (syntax_of kind) (bytes ++ t) h []
+EndsAtSpot kind at bytes = spot_of kind spot.Empty bytes ≡ at

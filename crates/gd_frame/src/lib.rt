@@ -26,6 +26,3 @@ pub use message::{Kind, MessageCause};
 pub use replies::ReplyFrames;
 pub use requests::RequestFrames;
 pub use step::{ReadState, ReadStep};
-
-#[cfg(test)]
-mod tests;

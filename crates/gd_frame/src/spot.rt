@@ -1,10 +1,10 @@
 //! Where in a head bytes end, told byte by byte: so a head that comes in many pieces is not read again for each.
 ghost use Rattle.std.specs.Prelude.{◌≡◌, ◌==◌, if◌then◌else◌};
 ghost use Rattle.std.specs.Char.{is_ascii_digit};
-ghost use Rattle.gd_frame.specs.Spots.{is_target_byte, line_after, first_after, behind_version, spot_after, spot_of, is_known};
+ghost use Rattle.gd_frame.specs.Spots.{line_after, first_after, behind_version, target_after, character_after, spot_after, spot_of, is_known};
 
 use crate::message::Kind;
-use httparse::{is_header_name_token, is_header_value_token, is_method_token};
+use httparse::{is_header_name_token, is_header_value_token, is_method_token, is_uri_token};
 
 /// Where in a head bytes end.
 #[derive(Clone, Copy, Debug, PartialEq, Eq)]
@@ -15,7 +15,19 @@ pub(crate) enum Spot {
     EmptyReturn,
     Method,
     TargetStart,
+    /// Between characters of a target.
     Target,
+    /// Inside a character of a target, of which so many bytes lack.
+    TargetOne,
+    TargetTwo,
+    TargetThree,
+    /// After a first byte behind which not every second byte may stand.
+    TargetE0,
+    TargetEd,
+    TargetF0,
+    TargetF4,
+    /// In a target that is no UTF-8, which is told behind its end.
+    TargetBroken,
     /// No byte of `HTTP/1.` is there.
     Version0,
     Version1,
@@ -48,12 +60,6 @@ pub(crate) enum Spot {
     Unknown,
 }
 
-fn is_target_byte(byte: u8) -> bool
-    ensures { result ≡ is_target_byte byte }
-{
-    matches!(byte, b'!'..=b'~')
-}
-
 fn line_after(byte: u8, other: Spot) -> Spot
     ensures { result ≡ line_after byte other }
 {
@@ -80,6 +86,37 @@ fn behind_version(kind: Kind) -> Spot
     match kind {
         Kind::Request => Spot::LineEnd,
         Kind::Reply => Spot::Status,
+    }
+}
+
+/// A byte of a target between two characters.
+fn target_after(byte: u8) -> Spot
+    ensures { result ≡ target_after byte }
+{
+    match byte {
+        0x00..=0x7F => Spot::Target,
+        0xC2..=0xDF => Spot::TargetOne,
+        0xE0 => Spot::TargetE0,
+        0xE1..=0xEC => Spot::TargetTwo,
+        0xED => Spot::TargetEd,
+        0xEE..=0xEF => Spot::TargetTwo,
+        0xF0 => Spot::TargetF0,
+        0xF1..=0xF3 => Spot::TargetThree,
+        0xF4 => Spot::TargetF4,
+        _ => Spot::TargetBroken,
+    }
+}
+
+/// A byte of a target inside a character, which goes on with one of these.
+fn character_after(byte: u8, low: u8, high: u8, next: Spot) -> Spot
+    ensures { result ≡ character_after low high next byte }
+{
+    if !is_uri_token(byte) {
+        Spot::Unknown
+    } else if low <= byte && byte <= high {
+        next
+    } else {
+        Spot::TargetBroken
     }
 }
 
@@ -132,8 +169,8 @@ fn after_method(kind: Kind, byte: u8) -> Spot
 fn after_target(kind: Kind, byte: u8) -> Spot
     ensures { result ≡ spot_after kind Spot.Target byte }
 {
-    if is_target_byte(byte) {
-        Spot::Target
+    if is_uri_token(byte) {
+        target_after(byte)
     } else {
         on(byte, b' ', Spot::Version0)
     }
@@ -182,8 +219,18 @@ fn after_value(kind: Kind, byte: u8) -> Spot
 fn after_target_start(kind: Kind, byte: u8) -> Spot
     ensures { result ≡ spot_after kind Spot.TargetStart byte }
 {
-    if is_target_byte(byte) {
-        Spot::Target
+    if is_uri_token(byte) {
+        target_after(byte)
+    } else {
+        Spot::Unknown
+    }
+}
+
+fn after_broken(kind: Kind, byte: u8) -> Spot
+    ensures { result ≡ spot_after kind Spot.TargetBroken byte }
+{
+    if is_uri_token(byte) {
+        Spot::TargetBroken
     } else {
         Spot::Unknown
     }
@@ -199,6 +246,14 @@ fn after(kind: Kind, at: Spot, byte: u8) -> Spot
         Spot::Method => after_method(kind, byte),
         Spot::TargetStart => after_target_start(kind, byte),
         Spot::Target => after_target(kind, byte),
+        Spot::TargetOne => character_after(byte, 0x80, 0xBF, Spot::Target),
+        Spot::TargetTwo => character_after(byte, 0x80, 0xBF, Spot::TargetOne),
+        Spot::TargetThree => character_after(byte, 0x80, 0xBF, Spot::TargetTwo),
+        Spot::TargetE0 => character_after(byte, 0xA0, 0xBF, Spot::TargetOne),
+        Spot::TargetEd => character_after(byte, 0x80, 0x9F, Spot::TargetOne),
+        Spot::TargetF0 => character_after(byte, 0x90, 0xBF, Spot::TargetTwo),
+        Spot::TargetF4 => character_after(byte, 0x80, 0x8F, Spot::TargetTwo),
+        Spot::TargetBroken => after_broken(kind, byte),
         Spot::Version0 => on(byte, b'H', Spot::Version1),
         Spot::Version1 => on(byte, b'T', Spot::Version2),
         Spot::Version2 => on(byte, b'T', Spot::Version3),
@@ -233,9 +288,13 @@ pub(crate) fn spot_of(kind: Kind, at: Spot, piece: &[u8]) -> Spot
     spot
 }
 
-/// Whether the head is open there.
-pub(crate) fn is_known(at: Spot) -> bool
-    ensures { result ≡ is_known at }
+/// Whether the head is open there. A reply has no target.
+pub(crate) fn is_known(kind: Kind, at: Spot) -> bool
+    ensures { result ≡ is_known kind at }
 {
-    !matches!(at, Spot::Unknown)
+    match at {
+        Spot::Unknown => false,
+        Spot::TargetBroken => matches!(kind, Kind::Request),
+        _ => true,
+    }
 }

@@ -47,7 +47,8 @@ fn take_first(kind: Kind, held: &mut Vec<u8>, piece: &[u8]) -> Result<Taken, NoM
     }
 }
 
-/// Takes a piece while no head is whole. While its bytes alone tell that the head is open, no other is looked at.
+/// Takes a piece while no head is whole. While its bytes alone tell that the head is open, no other is looked at; when
+/// they no longer do, one look at all of them decides.
 fn take_head(kind: Kind, held: &mut Vec<u8>, at: Spot, piece: &[u8]) -> Result<Taken, NoMemory>
     requires { Holds kind held.old.items (Phase.Head at) }
     ensures { Takes kind held.old.items piece.now result held.new.items }
@@ -56,11 +57,14 @@ fn take_head(kind: Kind, held: &mut Vec<u8>, at: Spot, piece: &[u8]) -> Result<T
     held.extend_from_slice(piece)?;
     let total = held.as_slice().len();
     let spot = spot_of(kind, at, piece);
-    if is_known(spot) && total < MAX_HEAD {
-        return Ok(Taken::Need(Phase::Head(spot)));
+    if is_known(kind, spot) {
+        if total < MAX_HEAD {
+            return Ok(Taken::Need(Phase::Head(spot)));
+        }
+        return Ok(Taken::Bad(MessageCause::Head));
     }
     match scan(kind, held.as_slice()) {
-        HeadScan::Open => Ok(Taken::Need(Phase::Head(spot))),
+        HeadScan::Open => unreachable!(),
         HeadScan::Bad(cause) => Ok(Taken::Bad(cause)),
         HeadScan::Framed(end, body) => {
             if total - end < body {

@@ -4,3 +4,4 @@ pub mod Said
 pub mod Sections
 pub mod RequestsAgain
 pub mod RepliesAgain
+pub mod Contents

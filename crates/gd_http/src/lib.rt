@@ -32,5 +32,5 @@ pub use reader::RequestReader;
 pub use replies::{Ending, ReplyReader};
 pub use reply::reply_from;
 pub use request::incoming_from;
-pub use telling::write_reply;
+pub use telling::{write_content_head, write_reply};
 pub use writing::write_request;

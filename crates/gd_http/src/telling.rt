@@ -1,9 +1,9 @@
 //! Writing replies.
-ghost use Rattle.std.specs.Prelude.{◌≡◌, ◌++◌, None, Some, codes, length, IfOk, OnOk};
+ghost use Rattle.std.specs.Prelude.{◌≡◌, ◌++◌, ℕ, List, None, Some, codes, length, IfOk, OnOk};
 ghost use Rattle.std.specs.Fmt.{decimal};
 ghost use Rattle.gd_item.specs.Replies.{status_of_reply};
 ghost use Rattle.gd_target.specs.Targets.{download_text, delta_text};
-ghost use Rattle.gd_http.specs.Written.{line_end, or_bytes};
+ghost use Rattle.gd_http.specs.Written.{line_end, length_text, or_bytes};
 ghost use Rattle.gd_http.specs.HearingReplies.{Listening, ReplyBytes};
 ghost use Rattle.gd_http.specs.Sending.{IsAnswer, HasReplyBody};
 ghost use Rattle.gd_http.specs.WrittenReplies.{phrase_of, version_text, status_text, link_field, location_header, code_of, json_of, bytes_type, type_header, bytes_of, length_header, reply_front, reply_rest, written_reply};
@@ -275,6 +275,26 @@ fn spelling(alloc: Global, reply: &Reply, wire: &Wire) -> Result<Bytes, NoMemory
         or_bytes(&json, bytes_of(reply)),
     )?;
     Ok(out)
+}
+
+/// What stands before the bytes of a reply that gives so many.
+fn content_head(alloc: Global, length: usize) -> Result<Bytes, NoMemory>
+    ensures { IfOk result (λ head. head ≡ ((status_text 200 ++ bytes_type) ++ length_text length) ++ line_end) }
+{
+    let mut out = Bytes::new(alloc);
+    put_status(alloc, &mut out, 200)?;
+    put_bytes_type(&mut out)?;
+    put_length(alloc, &mut out, length)?;
+    out.push_slice(b"\r\n")?;
+    Ok(out)
+}
+
+/// Writes the head of a reply that gives these bytes. Who sends them behind it need not copy them.
+pub fn write_content_head(alloc: Global, bytes: &[u8]) -> Result<Bytes, NoMemory>
+    ensures { IfOk result (λ head. (base : List ℕ) → written_reply base (Reply.Content bytes.now) ≡ head ++ bytes.now) }
+{
+    let head = content_head(alloc, bytes.len())?;
+    Ok(head)
 }
 
 /// Writes a reply in its one spelling. Within the limits it is read again as what it was, by who asked for it.

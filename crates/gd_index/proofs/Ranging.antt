@@ -8,7 +8,6 @@ use Rattle.std.specs.declared.cmp.Ordering.TheVariants.{Less, Equal, Greater}
 use Rattle.std.proofs.lemmas.Bool.{ne_eqb, cases_order}
 use Rattle.std.proofs.lemmas.Cmp.{ranked, tied_itself, nat_cmp_total}
 use Rattle.std.proofs.lemmas.List.{drop_more}
-use Rattle.std.proofs.lemmas.List.Sums.{length-filter}
 use Rattle.std.proofs.lemmas.Map.Keys.{sorted_head, sorted_tail}
 use Rattle.gd_names.proofs.Each.{each-so}
 use Rattle.gd_names.specs.Caseless.{lower_case}
@@ -17,14 +16,13 @@ use Rattle.std.specs.List.Sorted.{IsStrictlySortedBy}
 use Rattle.std.specs.Map.{keys_of, values_of}
 use Rattle.std.specs.Ordering.{nat_cmp, is_lt, is_le, is_gt, ordering_then, match_ordering}
 use Rattle.std.specs.declared.ops.Bound.TheVariants.{Excluded, Unbounded}
-use Rattle.gd_item.specs.Records.{child_count}
 use Rattle.gd_item.specs.Children.{is_past, in_name_order_from, children_past}
 use Rattle.gd_item.specs.declared.live.LiveItem.{LiveItem}
 use Rattle.gd_index.specs.declared.row.Row.{Row}
 use Rattle.gd_index.specs.Dated.{in_date_order_from, changed_past}
 use Rattle.gd_index.specs.Indexed.{at, spot_cmp, spot_of, children_start, while_in, items_in, items_at, item_and, IsIndexed}
 use Rattle.gd_index.proofs.Orders.{numbers, spots}
-use Rattle.gd_index.proofs.Sorting.{each-kept, sorted_from, first-in-order, as-many}
+use Rattle.gd_index.proofs.Sorting.{each-kept, sorted_from, first-in-order}
 
 abbrev change-of : LiveItem → ℕ
 change-of item = item.change
@@ -251,26 +249,3 @@ module _ (parent : ℕ) (earlier : Option (List ℕ)) where
       (each-so (λ (item : LiveItem). is-child item ≡ true) (λ (item : LiveItem). item.parent ≡ parent)
       (λ item on. eqb-true item.parent parent (first-part (nat_eq item.parent parent) (is_past earlier item.name) on)) (filter is-child (items_in rows)) (passing is-child (items_in rows))))))
       ∙ ap (λ xs. take most (children_past parent earlier xs)) view
-
--- ---- how many children a folder has
-module _ (parent : ℕ) where
-  sure : (b : Bool) → (b && true) ≡ b
-  sure true = refl
-  sure false = refl
-
-  same-filter : (items : List LiveItem) → filter (λ (item : LiveItem). nat_eq item.parent parent && true) items ≡ filter (λ (item : LiveItem). nat_eq item.parent parent) items
-  same-filter [] = refl
-  same-filter (item ∷ items) =
-      let more : List LiveItem = filter (λ (x : LiveItem). nat_eq x.parent parent && true) items in
-      ap (λ b. cond b (item ∷ more) more) (sure (nat_eq item.parent parent)) ∙ ap (λ rest. cond (nat_eq item.parent parent) (item ∷ rest) rest) (same-filter items)
-
-  children-length : (items : List LiveItem) → length (filter (λ (item : LiveItem). nat_eq item.parent parent && true) items) ≡ child_count parent items
-  children-length items = ap (λ (xs : List LiveItem). length xs) (same-filter items) ∙ length-filter (λ (item : LiveItem). nat_eq item.parent parent) items
-
-  pub children-count : (rows : List (ℕ × Row)) (index : List ((ℕ × List ℕ) × ℕ)) (changes : List (ℕ × ℕ)) (count : ℕ) (items : List LiveItem) → IsIndexed rows index changes
-      → IsStrictlySortedBy spot_cmp (keys_of index) → items_in rows ≡ items
-      → count ≡ length (while_in parent (entries_between spot_cmp (children_start parent None) Unbounded index)) → count ≡ child_count parent items
-  children-count rows index changes count items was ordered view is =
-      is ∙ ap (λ (es : List ((ℕ × List ℕ) × ℕ)). length es) (while-part parent None index ordered)
-      ∙ as-many spots spot_of rows index was.by_name (child-key parent None) (is-child parent None) (λ item. child-if parent None (nat_eq item.parent parent) item refl) was.lined was.rises ordered
-      ∙ children-length (items_in rows) ∙ ap (child_count parent) view

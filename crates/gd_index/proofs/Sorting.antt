@@ -1,12 +1,11 @@
 -- Items that are put in order of a key one by one stand as an index by that key has them.
-use Rattle.std.proofs.Common.{◌≡◌, ℕ, ◌<◌, zero, suc, inl, inr, Bool, true, false, ◌&&◌, cond, List, [], ◌∷◌, ◌+◌, length, take, filter, Option, Some, None, refl, ap, sym, subst, ◌∙◌, arith}
+use Rattle.std.proofs.Common.{◌≡◌, ℕ, ◌<◌, zero, suc, inl, inr, Bool, true, false, ◌&&◌, cond, List, [], ◌∷◌, take, filter, Option, Some, None, refl, ap, sym, subst, ◌∙◌, arith}
 use Rattle.std.specs.Prelude.{T}
 use Rattle.std.specs.BTreeMap.{insert_entry}
-use Rattle.std.specs.FinMap.Entries.{put, find, by_order, below_all, is_sorted, where_key, is_sorted-where_key, find-where_key, is_sorted-put, find-put, length-put, same_entries}
+use Rattle.std.specs.FinMap.Entries.{put, find, by_order, below_all, is_sorted, where_key, is_sorted-where_key, find-where_key, is_sorted-put, find-put, same_entries}
 use Rattle.std.specs.List.{AllByRecursion}
 use Rattle.std.specs.List.Sorted.{IsStrictlySortedBy}
 use Rattle.std.specs.Map.{keys_of, values_of}
-use Rattle.std.specs.Option.{is_some}
 use Rattle.std.specs.Ordering.{nat_cmp, is_eq, is_lt, ordering_reverse, match_ordering}
 use Rattle.std.specs.declared.cmp.Ordering.{Ordering}
 use Rattle.std.specs.declared.cmp.Ordering.TheVariants.{Less, Equal, Greater}
@@ -122,41 +121,6 @@ module _ {K : Type 0} {R : K → K → Ordering} (order : IsOrder R) where
         fold-at q (insert_entry R placed (key y) y) ys apart.1 ∙ ap (λ stood. or-else (first-at q ys) stood) (put-at q (key y) y placed)
         ∙ mixed (is_eq (R q (key y))) y (first-at q ys) (at R placed q) (λ is. ap (λ k. first-at k ys) (key-is q (key y) is) ∙ never (key y) ys apart.0)
 
-    -- ---- how many there are
-    turned-by : (o : Ordering) → is_eq o ≡ false → is_eq (ordering_reverse o) ≡ false
-    turned-by Less is = refl
-    turned-by Equal is = absurd (cc is)
-    turned-by Greater is = refl
-
-    turned : (a b : K) → is_eq (R a b) ≡ false → is_eq (R b a) ≡ false
-    turned a b is = ap is_eq (order.total.antisymm b a) ∙ turned-by (R a b) is
-
-    abbrev Absent : List (K × LiveItem) → List LiveItem → Type 0
-    Absent placed ys = AllByRecursion (λ (z : LiveItem). at R placed (key z) ≡ None) ys
-
-    still-absent : (y : LiveItem) (placed : List (K × LiveItem)) (ys : List LiveItem) → AllByRecursion (λ (z : LiveItem). is_eq (R (key y) (key z)) ≡ false) ys → Absent placed ys
-        → Absent (insert_entry R placed (key y) y) ys
-    still-absent y placed [] apart absent = tt
-    still-absent y placed (z ∷ ys) apart absent =
-        (put-at (key z) (key y) y placed ∙ ap (λ b. cond b (Some y) (at R placed (key z))) (turned (key y) (key z) apart.0) ∙ absent.0, still-absent y placed ys apart.1 absent.1)
-
-    longer : (y : LiveItem) (placed : List (K × LiveItem)) → T (is_sorted R placed) → at R placed (key y) ≡ None → length (insert_entry R placed (key y) y) ≡ length placed + 1
-    longer y placed rises absent =
-        ap (λ (es : List (K × LiveItem)). length es) (as-put (key y) y placed) ∙ length-put R order.total (key y) y placed rises
-        ∙ ap (λ b. cond b (length placed) (length placed + 1)) (ap is_some (sym (as-find (key y) placed) ∙ absent))
-
-    fold-length : (placed : List (K × LiveItem)) (ys : List LiveItem) → T (is_sorted R placed) → Distinct ys → Absent placed ys → length (sorted_from placed ys) ≡ length placed + length ys
-    fold-length placed [] rises apart absent = omega arith
-    fold-length placed (y ∷ ys) rises apart absent =
-        let more : List (K × LiveItem) = insert_entry R placed (key y) y in
-        let rest : length (sorted_from more ys) ≡ length more + length ys = fold-length more ys (sorted-insert (key y) y placed rises) apart.1 (still-absent y placed ys apart.0 absent.1) in
-        let one : length more ≡ length placed + 1 = longer y placed rises absent.0 in
-        omega (arith, rest, one)
-
-    none-placed : (ys : List LiveItem) → Absent [] ys
-    none-placed [] = tt
-    none-placed (y ∷ ys) = (refl, none-placed ys)
-
     module _ (rows : List (ℕ × Row)) where
       abbrev entry_and : K → Option Row → List (K × LiveItem) → List (K × LiveItem)
       entry_and k None es = es
@@ -203,11 +167,6 @@ module _ {K : Type 0} {R : K → K → Ordering} (order : IsOrder R) where
           subst (λ found. T (is_sorted R (entry_and e.0 found (itemed es)))) (sym all.0.1)
           (t-both (below_all R e.0 (itemed es)) (is_sorted R (itemed es)) (below-itemed e.0 es all.1 (t-first (below_all R e.0 es) (is_sorted R es) rises))
           (sorted-itemed es all.1 (t-second (below_all R e.0 es) (is_sorted R es) rises)))
-
-      itemed-length : (es : List (K × ℕ)) → AllByRecursion Told es → length (itemed es) ≡ length es
-      itemed-length [] all = refl
-      itemed-length (e ∷ es) all =
-          ap (λ found. length (entry_and e.0 found (itemed es))) all.0.1 ∙ (let rest : length (itemed es) ≡ length es = itemed-length es all.1 in omega (arith, rest))
 
       take-items : (n : ℕ) (es : List (K × ℕ)) → AllByRecursion Told es → items_at rows (take n (values_of es)) ≡ take n (items_at rows (values_of es))
       take-items zero es all = refl
@@ -334,11 +293,3 @@ module _ {K : Type 0} {R : K → K → Ordering} (order : IsOrder R) where
           -- the first items in order of the key are those of the first numbers that the index has
           pub first-in-order : (most : ℕ) → items_at rows (take most (values_of part)) ≡ take most (values_of (sorted_from [] (filter ok (items_in rows))))
           first-in-order most = take-items most part part-told ∙ ap (take most) (sym (itemed-values part) ∙ ap values_of (sym same-order))
-
-          -- as many items pass as numbers
-          pub as-many : length part ≡ length (filter ok (items_in rows))
-          as-many =
-              let all : length (sorted_from [] (filter ok (items_in rows))) ≡ 0 + length (filter ok (items_in rows)) =
-              fold-length [] (filter ok (items_in rows)) tt (distinct-rows rows all-rows-listed (up rows rises)) (none-placed (filter ok (items_in rows))) in
-              let same_length : length (sorted_from [] (filter ok (items_in rows))) ≡ length part = ap (λ (es : List (K × LiveItem)). length es) same-order ∙ itemed-length part part-told in
-              omega (arith, all, same_length)

@@ -16,25 +16,27 @@ use std::alloc::Global;
 use std::collections::BTreeMap;
 use std::marker::Model;
 
-/// Items in order of number, with the maps that find them.
+/// Items in order of number, with the maps that find them, and how many children each folder has.
 #[derive(Debug, Drop)]
 pub struct Index {
     alloc: Global,
     rows: BTreeMap<u64, Row>,
     names: BTreeMap<Spot, u64>,
     changes: BTreeMap<u64, u64>,
+    counts: BTreeMap<u64, u64>,
 }
 
 impl Model for Index {
     ghost use Rattle.std.specs.Prelude.{List};
     ghost use Rattle.gd_item.specs.declared.live.LiveItem.{LiveItem};
-    ghost use Rattle.gd_index.specs.Indexed.{IsIndexed, items_in};
+    ghost use Rattle.gd_index.specs.Counted.{IsWhole};
+    ghost use Rattle.gd_index.specs.Indexed.{items_in};
 
     ghost Value = { List LiveItem };
 
     ghost view = { λ x. items_in x.rows.entries };
 
-    ghost invariant = { λ x. IsIndexed x.rows.entries x.names.entries x.changes.entries };
+    ghost invariant = { λ x. IsWhole x.rows.entries x.names.entries x.changes.entries x.counts.entries };
 }
 
 impl Index {
@@ -46,6 +48,7 @@ impl Index {
             rows: BTreeMap::new(alloc),
             names: BTreeMap::new(alloc),
             changes: BTreeMap::new(alloc),
+            counts: BTreeMap::new(alloc),
         }
     }
 

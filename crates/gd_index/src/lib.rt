@@ -1,6 +1,7 @@
 //! The items of a drive by number, by folder and name, and by change number.
 #![tactic(auto)]
 
+mod counts;
 mod index;
 mod row;
 mod rows;

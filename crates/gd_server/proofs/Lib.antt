@@ -3,3 +3,4 @@ pub mod Standing
 pub mod Conversing
 pub mod Logging
 pub mod Counting
+pub mod Writing

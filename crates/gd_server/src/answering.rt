@@ -1,5 +1,5 @@
 //! Replies to messages.
-ghost use Rattle.std.specs.Prelude.{◌≡◌, ◌≤◌, ◌⊎◌, ℕ, IsErrOf};
+ghost use Rattle.std.specs.Prelude.{◌≡◌, ◌≤◌, ◌⊎◌, ◌++◌, ℕ, List, IsErrOf};
 ghost use Rattle.gd_names.specs.Streams.{Rose, Writes, HasWriteCause};
 ghost use Rattle.gd_http.specs.WrittenReplies.{written_reply};
 ghost use Rattle.gd_server.specs.Replies.{Says, refusal_of, last_text};
@@ -8,11 +8,15 @@ ghost use Rattle.gd_server.specs.Serving.{Replied, SentAt, end_of};
 use crate::end::ServeEnd;
 use crate::inbox::Message;
 use gd_api::Drive;
-use gd_http::{Incoming, MessageCause, write_reply};
+use gd_http::{Incoming, MessageCause, write_content_head, write_reply};
 use gd_item::{ErrorCode, Reply, Request};
 use gd_json::Wire;
-use gd_names::{Sink, SinkFault};
+use gd_names::{Bytes, Sink, SinkFault};
 use std::alloc::Global;
+
+/// How many bytes are written at once with their head. More go behind it from where they are, since a copy of them
+/// takes longer than a second write.
+const MOST_JOINED: usize = 65_536;
 
 /// What answers requests.
 pub(crate) trait Answers {
@@ -53,8 +57,41 @@ fn reply_to<A: Answers>(answers: &mut A, asks: &Incoming) -> Reply
     }
 }
 
+/// Writes one text behind the other.
+fn write_both<S: Sink>(sink: &mut S, first: &[u8], second: &[u8]) -> Result<(), SinkFault>
+    ensures bytes { Writes (S.written sink.old) (S.written sink.new) (first.now ++ second.now) result }
+    ensures cause { HasWriteCause (S.faults sink.old) (S.faults sink.new) result }
+    ensures goes { S.goes sink.old sink.new }
+{
+    match sink.write(first) {
+        Ok(()) => {}
+        Err(fault) => return Err(fault),
+    }
+    match sink.write(second) {
+        Ok(()) => Ok(()),
+        Err(fault) => Err(fault),
+    }
+}
+
+/// Sends bytes, in two writes.
+fn send_bytes<S: Sink>(alloc: Global, sink: &mut S, bytes: &Bytes) -> Result<(), SinkFault>
+    ensures bytes { (base : List ℕ) → Writes (S.written sink.old) (S.written sink.new) (written_reply base (Reply.Content bytes.now)) result }
+    ensures cause { HasWriteCause (S.faults sink.old) (S.faults sink.new) result }
+    ensures goes { S.goes sink.old sink.new }
+{
+    match write_content_head(alloc, bytes.as_slice()) {
+        Ok(head) => write_both(sink, head.as_slice(), bytes.as_slice()),
+        Err(_) => Err(SinkFault::Memory),
+    }
+}
+
 /// Sends a reply, in one write.
-fn send<S: Sink>(alloc: Global, sink: &mut S, wire: &Wire, reply: &Reply) -> Result<(), SinkFault>
+fn send_whole<S: Sink>(
+    alloc: Global,
+    sink: &mut S,
+    wire: &Wire,
+    reply: &Reply,
+) -> Result<(), SinkFault>
     ensures bytes { Writes (S.written sink.old) (S.written sink.new) (written_reply wire.now.base reply.now) result }
     ensures cause { HasWriteCause (S.faults sink.old) (S.faults sink.new) result }
     ensures goes { S.goes sink.old sink.new }
@@ -62,6 +99,18 @@ fn send<S: Sink>(alloc: Global, sink: &mut S, wire: &Wire, reply: &Reply) -> Res
     match write_reply(alloc, reply, wire) {
         Ok(text) => sink.write(text.as_slice()),
         Err(_) => Err(SinkFault::Memory),
+    }
+}
+
+/// Sends a reply, in one write but for large bytes.
+fn send<S: Sink>(alloc: Global, sink: &mut S, wire: &Wire, reply: &Reply) -> Result<(), SinkFault>
+    ensures bytes { Writes (S.written sink.old) (S.written sink.new) (written_reply wire.now.base reply.now) result }
+    ensures cause { HasWriteCause (S.faults sink.old) (S.faults sink.new) result }
+    ensures goes { S.goes sink.old sink.new }
+{
+    match reply {
+        Reply::Content(bytes) if bytes.len() > MOST_JOINED => send_bytes(alloc, sink, bytes),
+        _ => send_whole(alloc, sink, wire, reply),
     }
 }
 

@@ -53,8 +53,8 @@ pub(crate) fn converse<I: Source, S: Sink, A: Answers>(
     ServeEnd::Spent
 }
 
-/// Serves a connection to its end: each message that stands in what is read is answered in turn, in one write. A batch
-/// and a version are answered as what is not there.
+/// Serves a connection to its end: each message that stands in what is read is answered in turn, in one write or, with
+/// large bytes, in two. A batch and a version are answered as what is not there.
 pub fn serve_connection<I: Source, S: Sink>(
     alloc: Global,
     source: &mut I,

@@ -306,6 +306,26 @@ from-place position removed_after (suc i) (stone ∷ stones) early late =
     ap (λ b. cond b (stone ∷ stones_past position removed_after stones) (stones_past position removed_after stones)) (past-both position removed_after stone.change ∙ ap not (early 0 stone (omega arith) (omega arith)))
     ∙ from-place position removed_after i stones (λ k d lo hi. early (suc k) d (omega arith) (omega arith)) (λ k d lo hi. late (suc k) d (omega arith) (omega arith))
 
+-- ---- the place from which tombstones are past a floor
+abbrev above : ℕ → List Tombstone → List Tombstone
+above floor stones = filter (λ (stone : Tombstone). nat_lt floor stone.change) stones
+
+past-floor : (floor change : ℕ) → nat_lt floor change ≡ not (leb change floor)
+past-floor floor change = grind (arith, nat_tests)
+
+all-above : (floor : ℕ) (stones : List Tombstone) → AllByRecursion (λ (stone : Tombstone). leb stone.change floor ≡ false) stones → above floor stones ≡ stones
+all-above floor [] all = refl
+all-above floor (stone ∷ stones) all =
+    ap (λ b. cond b (stone ∷ above floor stones) (above floor stones)) (past-floor floor stone.change ∙ ap not all.0) ∙ ap (λ xs. stone ∷ xs) (all-above floor stones all.1)
+
+pub from-floor : (floor i : ℕ) (stones : List Tombstone) → AllWithin (λ (stone : Tombstone). leb stone.change floor ≡ true) stones 0 i
+    → AllWithin (λ (stone : Tombstone). leb stone.change floor ≡ false) stones i (length stones) → drop i stones ≡ above floor stones
+from-floor floor zero stones early late = sym (all-above floor stones (each (λ (stone : Tombstone). leb stone.change floor ≡ false) stones (λ k d lt. late k d (omega arith) lt)))
+from-floor floor (suc i) [] early late = refl
+from-floor floor (suc i) (stone ∷ stones) early late =
+    from-floor floor i stones (λ k d lo hi. early (suc k) d (omega arith) (omega arith)) (λ k d lo hi. late (suc k) d (omega arith) (omega arith))
+    ∙ sym (ap (λ b. cond b (stone ∷ above floor stones) (above floor stones)) (past-floor floor stone.change ∙ ap not (early 0 stone (omega arith) (omega arith))))
+
 -- as many of them as there are, at most
 pub at-most : {X : Type 0} (n most : ℕ) (xs : List X) → n ≡ length xs → take (min n most) xs ≡ take most xs
 at-most n most xs is =

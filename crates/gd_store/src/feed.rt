@@ -1,4 +1,4 @@
-ghost use Rattle.std.specs.Prelude.{◌≡◌, ◌-◌, ◌^◌, ◌<◌, cond, map, take, filter, nat_lt, length, slice_index, Some, OnOk, IfOk};
+ghost use Rattle.std.specs.Prelude.{◌≡◌, ◌-◌, ◌^◌, ◌<◌, ◌≤◌, cond, map, take, drop, filter, nat_lt, length, slice_index, Some, OnOk, IfOk};
 ghost use Rattle.std.specs.List.{All, AllPairs};
 ghost use Rattle.std.specs.Map.{keys_of};
 ghost use Rattle.gd_item.specs.Inventory.{live_at};
@@ -78,11 +78,35 @@ pub fn first_stones(
     first
 }
 
-/// Leaves out the removed items up to a floor. Takes no memory.
+/// How many of some removed items in order of change stand up to a floor.
+fn count_expired(stones: &[Tombstone], floor: u64) -> usize
+    requires { AllPairs (λ (x y : Tombstone). x.change < y.change) stones.now }
+    ensures within { result ≤ length stones.now }
+    ensures rest { drop result stones.now ≡ filter (λ (stone : Tombstone). nat_lt floor stone.change) stones.now }
+{
+    stones.partition_point(|stone| stone.change <= floor)
+}
+
+/// Leaves out the first removed items, and moves the others at once.
+fn drop_first(stones: &mut Vec<Tombstone>, count: usize)
+    requires { count ≤ length stones.old.items }
+    ensures { stones.new.items ≡ drop count stones.old.items }
+{
+    if count == 0 {
+        return;
+    }
+    let rest = stones.len() - count;
+    stones.copy_within(count.., 0);
+    stones.truncate(rest);
+}
+
+/// Leaves out the removed items up to a floor, of some in order of change. Takes no memory.
 pub fn drop_stones(stones: &mut Vec<Tombstone>, floor: u64)
+    requires { AllPairs (λ (x y : Tombstone). x.change < y.change) stones.old.items }
     ensures { stones.new.items ≡ filter (λ stone. nat_lt floor stone.change) stones.old.items }
 {
-    stones.retain(|stone| floor < stone.change);
+    let count = count_expired(stones.as_slice(), floor);
+    drop_first(stones, count);
 }
 
 /// The last of the first numbers, at most so many, where more follow.

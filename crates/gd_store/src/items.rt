@@ -186,7 +186,10 @@ impl Items {
         };
         match version_bytes(item, self.replaced.as_slice(), version) {
             None => Ok(None),
-            Some(bytes) => Ok(Some(bytes.clone()?)),
+            Some(bytes) => {
+                let copy = Bytes::from_slice(self.alloc, bytes.as_slice())?;
+                Ok(Some(copy))
+            }
         }
     }
 

@@ -28,7 +28,7 @@ use Rattle.gd_store.proofs.Given.{given-ok}
 use Rattle.gd_laws.specs.Placed.{placed_items}
 use Rattle.od_mirror.specs.Pulled.{paths_of, with_records}
 use Rattle.gd_names.proofs.Mapped.{mapped}
-use Rattle.od_mirror.proofs.Standing.{paths-of-placed}
+use Rattle.od_pages.proofs.Standing.{paths-of-placed}
 use Rattle.od_cli.specs.Worlds.{Holds}
 use Rattle.od_cli.specs.Pulled.{whole_items, AreListed, IsFileAt, IsListed}
 use Rattle.od_cli.proofs.Pulls.{records-are, sound-of}

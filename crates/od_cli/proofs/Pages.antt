@@ -36,7 +36,7 @@ use Rattle.gd_laws.proofs.Pages.{last-page, page-of-none, page-of-token, served-
 use Rattle.gd_laws.proofs.Tokens.{next-served}
 use Rattle.od_mirror.specs.Pulled.{Pulled, begun, after_link, after_page, with_records, taken_of}
 use Rattle.od_mirror.proofs.Keyed.{with_records-append}
-use Rattle.od_mirror.proofs.Pulling.{link-items}
+use Rattle.od_pages.proofs.Pulling.{link-items}
 use Rattle.od_mirror.specs.declared.mirror.Taken.{Taken}
 use Rattle.od_mirror.specs.declared.mirror.Taken.TheVariants.{More, Last}
 use Rattle.od_cli.specs.Pulling.{HasAll, IsUnderway, Takes, TakesPages, TokenAt, asks_from, ends_from, most_replies, next_of, next_of_link, others_steps}

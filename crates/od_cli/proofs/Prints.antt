@@ -16,7 +16,7 @@ use Rattle.gd_item.specs.Records.{records_of}
 use Rattle.gd_laws.specs.Placed.{placed_items}
 use Rattle.od_mirror.specs.Pulled.{Pulled, paths_of, with_records}
 use Rattle.gd_names.proofs.Mapped.{mapped}
-use Rattle.od_mirror.proofs.Standing.{paths-of-placed, tree-of-placed}
+use Rattle.od_pages.proofs.Standing.{paths-of-placed, tree-of-placed}
 use Rattle.od_cli.specs.Played.{entry_line, pulled_text}
 use Rattle.od_cli.specs.Pulled.{item_line, kind_line, whole_items}
 use Rattle.gd_item.specs.Steps.{state_of, held_by}

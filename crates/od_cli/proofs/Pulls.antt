@@ -21,8 +21,8 @@ use Rattle.gd_store.specs.Stands.{StoreValue, Stands, pruned}
 use Rattle.gd_item.specs.Records.{records_of}
 use Rattle.od_mirror.specs.Pulled.{Pulled, begun, after_page, with_records, nodes, is_bad, IsLeastBad, taken_of}
 use Rattle.od_mirror.specs.declared.mirror.Taken.TheVariants.{Last}
-use Rattle.od_mirror.proofs.Pulling.{feed-gives-all, link-items}
-use Rattle.od_mirror.proofs.Standing.{records-fit}
+use Rattle.od_pages.proofs.Pulling.{feed-gives-all, link-items}
+use Rattle.od_pages.proofs.Standing.{records-fit}
 use Rattle.od_cli.specs.Pulled.{whole_items, IsWhole}
 use Rattle.od_cli.specs.Pulling.{HasAll}
 use Rattle.od_cli.specs.Worlds.{Holds}

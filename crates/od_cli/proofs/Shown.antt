@@ -22,7 +22,7 @@ use Rattle.gd_item.specs.Records.{records_of}
 use Rattle.gd_laws.specs.Placed.{placed_items}
 use Rattle.od_mirror.specs.Pulled.{paths_of, with_records}
 use Rattle.gd_names.proofs.Mapped.{mapped, in-order-mapped}
-use Rattle.od_mirror.proofs.Standing.{paths-of-placed, tree-of-placed}
+use Rattle.od_pages.proofs.Standing.{paths-of-placed, tree-of-placed}
 use Rattle.od_cli.specs.Played.{content_line, drive_text}
 use Rattle.od_cli.specs.Plays.{Plays}
 use Rattle.od_cli.specs.Pulled.{shown_kind, shown_line, whole_items}

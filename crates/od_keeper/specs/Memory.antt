@@ -1,5 +1,5 @@
 -- What the keeper in memory tells.
-use Rattle.std.specs.Prelude.{ℕ, Bool, true, false, List, [], ◌∷◌, Option, Some}
+use Rattle.std.specs.Prelude.{ℕ, Bool, true, false, ◌&&◌, is_none, List, [], ◌∷◌, Option, Some}
 use Rattle.od_keeper.specs.declared.image.Image.{Image}
 use Rattle.od_keeper.specs.declared.memory.MemoryKeeper.{MemoryKeeper}
 
@@ -15,10 +15,18 @@ faults_of keeper = keeper.faults
 abbrev pub failing_of : MemoryKeeper → List ℕ
 failing_of keeper = keeper.failing
 
--- whether there are none
+-- the call from which on it fails, and how many calls were made
+abbrev pub stop_of : MemoryKeeper → Option ℕ
+stop_of keeper = keeper.stop
+
+abbrev pub calls_of : MemoryKeeper → ℕ
+calls_of keeper = keeper.calls
+
+-- whether no calls are listed
 abbrev pub is_empty : List ℕ → Bool
 is_empty [] = true
 is_empty (call ∷ calls) = false
 
+-- whether none are listed, and there is no stop
 abbrev pub is_undisturbed : MemoryKeeper → Bool
-is_undisturbed keeper = is_empty (failing_of keeper)
+is_undisturbed keeper = is_empty (failing_of keeper) && is_none (stop_of keeper)

@@ -19,7 +19,7 @@ use Rattle.od_merge.proofs.NotKept.{no-target}
 target-by : (s : Sides) (q : Path) → is_needed s q ≡ false → target s q ≡ wanted s q
 target-by s q free = ap (λ (b : Bool). cond b (Some Folder) (wanted s q)) free
 
-folder-target : (t : Bool) (x : Option Content) → x ≡ Some Folder → cond t (Some Folder) x ≡ Some Folder
+pub folder-target : (t : Bool) (x : Option Content) → x ≡ Some Folder → cond t (Some Folder) x ≡ Some Folder
 folder-target true x is = refl
 folder-target false x is = is
 
@@ -57,7 +57,7 @@ pub any-one : (test : Path → Bool) (paths : List Path) → list_any test paths
 any-one test [] has = absurd (false≢true has)
 any-one test (first ∷ paths) has = any-one-at (test first) test first paths refl has (any-one test paths)
 
-long-by : (tree : Tree) → at tree [] ≡ None → (q : Path) → is_some (at tree q) ≡ true → nat_lt 0 (length q) ≡ true
+pub long-by : (tree : Tree) → at tree [] ≡ None → (q : Path) → is_some (at tree q) ≡ true → nat_lt 0 (length q) ≡ true
 long-by tree root [] some = absurd (false≢true (sym (ap (λ (x : Option Content). is_some x) root) ∙ some))
 long-by tree root (name ∷ names) some = lt-ltb 0 (length (name ∷ names)) (omega arith)
 

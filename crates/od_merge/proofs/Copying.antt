@@ -80,7 +80,7 @@ keeps test q [] is has = absurd (false≢true has)
 keeps test q (p ∷ paths) is has =
     keeps-at (test p) (is_path q p) q p (filter test paths) refl (λ same. subst (λ (x : Path). test x ≡ true) (same-path q p same) is) (which (is_path q p) (λ more. keeps test q paths is more) has)
 
-here-some : (s : Sides) (q : Path) (x y : Option Content) → is_conflict_of s q x y ≡ true → is_some x ≡ true
+pub here-some : (s : Sides) (q : Path) (x y : Option Content) → is_conflict_of s q x y ≡ true → is_some x ≡ true
 here-some s q None y is = absurd (false≢true is)
 here-some s q (Some x) y is = refl
 

@@ -12,8 +12,9 @@ use Rattle.od_merge.specs.Sides.{Sides, at, is_from, is_below, is_other_kind, is
 use Rattle.gd_names.specs.Ordered.{path_cmp}
 use Rattle.od_merge.specs.Merging.{all_paths, both_paths, in_order_from, is_needed, is_staying, is_unwanted, merged, seen, target, wanted}
 use Rattle.od_merge.specs.Core.{core}
-use Rattle.od_merge.proofs.Lists.{Path, at-in, exact-paths, from-self, in-joined, is_in, none-of}
+use Rattle.od_merge.proofs.Lists.{Path, at-in, from-self, in-joined, is_in, none-of, or-twice, turn-or, swap-or}
 use Rattle.od_merge.proofs.Needs.{makes_needed}
+use Rattle.gd_names.proofs.Ordered.{exact-paths}
 
 abbrev all : Path → Bool → Bool
 all path folder = true
@@ -62,21 +63,6 @@ any-alike : (f g : Path → Bool) → ((o : Path) → f o ≡ g o) → (paths : 
 any-alike f g same [] = refl
 any-alike f g same (o ∷ paths) = ap (λ b. b || list_any f paths) (same o) ∙ ap (λ b. g o || b) (any-alike f g same paths)
 
-twice-or : (a b c : Bool) → a ≡ b → (b || c) ≡ (a || (b || c))
-twice-or true true c is = refl
-twice-or true false c is = absurd (true≢false is)
-twice-or false b c is = refl
-
-turn-or : (a b c : Bool) → (b || (a || c)) ≡ (a || (b || c))
-turn-or true true c = refl
-turn-or true false c = refl
-turn-or false b c = refl
-
-swap-or : (a b c : Bool) → ((a || b) || c) ≡ (b || (a || c))
-swap-or true true c = refl
-swap-or true false c = refl
-swap-or false b c = refl
-
 filter-one : (t a b c : Bool) (f : Path → Bool) (o : Path) (kept : List Path) → f o ≡ a → list_any f kept ≡ c → list_any f (cond t (o ∷ kept) kept) ≡ ((a && t) || c)
 filter-one true true b c f o kept here rest = rw here refl
 filter-one true false b c f o kept here rest = rw here rest
@@ -90,7 +76,7 @@ any-filter f test (o ∷ paths) = filter-one (test o) (f o) true (list_any (λ p
 order-one : (o : Ordering) (f : Path → Bool) (path first : Path) (rest put : List Path) → path_cmp path first ≡ o → list_any f put ≡ (f path || list_any f rest)
     → list_any f (match_ordering o (path ∷ (first ∷ rest)) (first ∷ rest) (first ∷ put)) ≡ (f path || (f first || list_any f rest))
 order-one Less f path first rest put is inner = refl
-order-one Equal f path first rest put is inner = twice-or (f path) (f first) (list_any f rest) (ap f (exact-paths path first is))
+order-one Equal f path first rest put is inner = or-twice (f path) (f first) (list_any f rest) (ap f (exact-paths path first is))
 order-one Greater f path first rest put is inner = ap (λ b. f first || b) inner ∙ turn-or (f path) (f first) (list_any f rest)
 
 any-insert : (f : Path → Bool) (path : Path) (paths : List Path) → list_any f (insert_key path_cmp paths path) ≡ (f path || list_any f paths)

@@ -40,7 +40,7 @@ pub keeps-changed : (b x y : Option Content) → same x b ≡ false → is_some 
 keeps-changed b None y changed some = absurd (false≢true some)
 keeps-changed b (Some x) y changed some = rw changed (second (same y b || same (Some x) y) (Some x))
 
-some-file : (x : Option Content) → is_file x ≡ true → is_some x ≡ true
+pub some-file : (x : Option Content) → is_file x ≡ true → is_some x ≡ true
 some-file None file = absurd (false≢true file)
 some-file (Some x) file = refl
 

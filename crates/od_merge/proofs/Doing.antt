@@ -10,7 +10,7 @@ use Rattle.od_merge.specs.Merging.{all_paths, both_paths, is_going, is_left, is_
 use Rattle.od_merge.specs.Steps.{Fits, IsClear, deepest_first, done, is_fetched, is_sent, needs_folder, stands, steps_at, steps_here, steps_there}
 use Rattle.od_merge.proofs.Cases.{Going, made, same-nodes}
 use Rattle.od_merge.proofs.Lists.{text-self, Path, is_in, at-in, deepest-in, from-self, path-self, in-joined, in-order}
-use Rattle.od_merge.proofs.Needs.{below-from, below-is-from, file-from, file-needs, makes_needed, seen-file, wanted-is}
+use Rattle.od_merge.proofs.Needs.{below-from, below-is-from, file-from, file-needs, makes_needed, seen-file, wanted-is, no-wanted}
 use Rattle.od_merge.proofs.Phases.{chosen, done-then}
 use Rattle.od_merge.proofs.SideFacts.{IsAsBase, file-beside, file-goes, file-of, folder-beside, goes, here-file-kept, here-folder-goes, is-folder, either}
 
@@ -24,7 +24,7 @@ merged-base b x y is = rw is refl
 pub as-drive : (s : Sides) (q : Path) → IsAsBase s q → merged (s.base q) (seen s s.local q) (seen s s.remote q) ≡ seen s s.remote q
 as-drive s q is = merged-base (s.base q) (seen s s.local q) (seen s s.remote q) (ap (λ x. same x (s.base q)) (seen-kept s s.local q is.kept) ∙ is.same_base)
 
-cond-none : {X : Type 0} (t : Bool) (x : Option X) → x ≡ None → cond t x None ≡ None
+pub cond-none : {X : Type 0} (t : Bool) (x : Option X) → x ≡ None → cond t x None ≡ None
 cond-none true x is = is
 cond-none false x is = refl
 
@@ -62,10 +62,6 @@ none-of-entries test (entry ∷ tree) each =
 pub none-of-tree : (test : Path → Bool) (tree : List (Path × Content)) → ((o : Path) → is_some (at tree o) ≡ true → test o ≡ false) → list_any (λ (entry : Path × Content). test entry.0) tree ≡ false
 none-of-tree test tree each = none-of-entries test tree (λ o has. each o (at-in o tree ∙ has))
 
-pub no-some : (x : Option Content) → is_some x ≡ false → x ≡ None
-no-some None is = refl
-no-some (Some x) is = absurd (true≢false is)
-
 cond-of-none : (t : Bool) (x : Option Content) → x ≡ None → cond t None x ≡ None
 cond-of-none true x is = refl
 cond-of-none false x is = is
@@ -73,7 +69,7 @@ cond-of-none false x is = is
 -- below such a path each local entry is as the base, and the drive has none
 module _ (s : Sides) (fits : Fits s) (q : Path) (file : is_file (at s.remote q) ≡ true) (as_base : (p : Path) → is_from q p ≡ true → is_some (at s.local p) ≡ true → IsAsBase s p) where
   drive-none : (p : Path) → is_below q p ≡ true → at s.remote p ≡ None
-  drive-none p below = no-some (at s.remote p) (fits.files q p file below)
+  drive-none p below = no-wanted (at s.remote p) (fits.files q p file below)
 
   some-here : (p : Path) → is_below q p ≡ true → is_in p (both_paths s) ≡ true → is_some (at s.local p) ≡ true
   some-here p below has =

@@ -13,6 +13,7 @@ use Rattle.od_merge.specs.Sides.{at, is_path, is_from, paths_of}
 use Rattle.gd_names.specs.Ordered.{path_cmp}
 use Rattle.od_merge.specs.Merging.{in_order_from}
 use Rattle.od_merge.specs.Steps.{by_depth, deepest_first, depth_of}
+use Rattle.gd_names.proofs.Ordered.{exact-paths}
 
 abbrev pub Path : Type 0
 Path = List (List ℕ)
@@ -57,29 +58,16 @@ from-longer (x ∷ top) (y ∷ path) from apart =
     let rest : is_path top path ≡ false = sym (ap (λ b. b && is_path top path) parts.0) ∙ apart in
     let shorter = from-longer top path parts.1 rest in grind (arith, shorter)
 
-both-equal : (o p : Ordering) → ordering_then o p ≡ Equal → (o ≡ Equal) × (p ≡ Equal)
-both-equal Less p is = absurd (cc is)
-both-equal Equal p is = (refl, is)
-both-equal Greater p is = absurd (cc is)
-
-pub exact-paths : (a b : Path) → path_cmp a b ≡ Equal → a ≡ b
-exact-paths [] [] is = refl
-exact-paths [] (y ∷ b) is = absurd (cc is)
-exact-paths (x ∷ a) [] is = absurd (cc is)
-exact-paths (x ∷ a) (y ∷ b) is =
-    let parts = both-equal (slice_cmp nat_cmp x y) (path_cmp a b) is in
-    ap (λ first. first ∷ a) (exact_bytes x y parts.0) ∙ ap (λ rest. y ∷ rest) (exact-paths a b parts.1)
-
 -- ---- in lists
 abbrev pub is_in : Path → List Path → Bool
 is_in path paths = list_any (is_path path) paths
 
-turn-or : (a b c : Bool) → (b || (a || c)) ≡ (a || (b || c))
+pub turn-or : (a b c : Bool) → (b || (a || c)) ≡ (a || (b || c))
 turn-or true true c = refl
 turn-or true false c = refl
 turn-or false b c = refl
 
-or-twice : (a b c : Bool) → a ≡ b → (b || c) ≡ (a || (b || c))
+pub or-twice : (a b c : Bool) → a ≡ b → (b || c) ≡ (a || (b || c))
 or-twice true true c is = refl
 or-twice true false c is = absurd (true≢false is)
 or-twice false b c is = refl
@@ -88,7 +76,7 @@ or-nothing : (a : Bool) → a ≡ (a || false)
 or-nothing true = refl
 or-nothing false = refl
 
-swap-or : (a b c : Bool) → ((a || b) || c) ≡ (b || (a || c))
+pub swap-or : (a b c : Bool) → ((a || b) || c) ≡ (b || (a || c))
 swap-or true true c = refl
 swap-or true false c = refl
 swap-or false b c = refl

@@ -30,7 +30,7 @@ three-and false b = refl
 no-three : {X : Type 0} (a b c : List X) → a ≡ [] → b ≡ [] → c ≡ [] → (a ++ (b ++ c)) ≡ []
 no-three a b c a_is b_is c_is = rw (a_is, b_is, c_is) refl
 
-filter-one-none : (t : Bool) (path : Path) (rest : List Path) → t ≡ false → rest ≡ [] → cond t (path ∷ rest) rest ≡ []
+pub filter-one-none : (t : Bool) (path : Path) (rest : List Path) → t ≡ false → rest ≡ [] → cond t (path ∷ rest) rest ≡ []
 filter-one-none true path rest is none = absurd (true≢false is)
 filter-one-none false path rest is none = none
 
@@ -111,7 +111,7 @@ long-from tree is_tree (name ∷ names) some = lt-ltb 0 (length (name ∷ names)
 none-filtered : (test : Path → Bool) (leaves : Path → Option Content) (paths : List Path) → ((q : Path) → is_in q paths ≡ true → test q ≡ false) → steps_at test leaves paths ≡ []
 none-filtered test leaves paths none = ap (λ ps. map (λ path. (path, leaves path)) ps) (filter-none test paths (none-of-list test paths none))
 
-no-kind : (x : Option Content) → is_other_kind x x ≡ false
+pub no-kind : (x : Option Content) → is_other_kind x x ≡ false
 no-kind None = refl
 no-kind (Some Folder) = refl
 no-kind (Some (File d)) = refl

@@ -93,7 +93,7 @@ pub needed-more : (s : Sides) (q p : Path) → is_from q p ≡ true → (o : Pat
 needed-more s q p from o is = needed-more-at (is_below p o && is_some (wanted s o)) s q p from o refl is
 
 -- a path below that is on a side has no target
-no-wanted : (x : Option Content) → is_some x ≡ false → x ≡ None
+pub no-wanted : (x : Option Content) → is_some x ≡ false → x ≡ None
 no-wanted None is = refl
 no-wanted (Some x) is = absurd (true≢false is)
 

@@ -10,11 +10,10 @@ use Rattle.od_merge.specs.Sides.{Sides, Tree, at, is_below, is_file, is_from, is
 use Rattle.od_merge.specs.Merging.{and_taken, conflicts, is_changed, is_changed_or_skipped, copied, is_conflict, is_conflict_of, is_left, moved, renamed, renamed_tree, renames, without_copy}
 use Rattle.od_merge.specs.Steps.{AreCopies, AreRenamed, AreTrees, Fits, IsCopy, IsCopying, IsDriveTree, IsProper}
 use Rattle.od_merge.proofs.Lists.{Path, at-in, from-self, from-through, in-joined, is_in, path-self, same-path, text-self}
-use Rattle.od_merge.proofs.Needs.{below-from, below-is-from, from-below}
+use Rattle.od_merge.proofs.Needs.{below-from, below-is-from, from-below, no-wanted}
 use Rattle.od_merge.proofs.SideFacts.{prefixes}
 use Rattle.od_merge.proofs.Renames.{conflict-there, from-front, is_near, kept-renamed}
-use Rattle.od_merge.proofs.Doing.{no-some}
-use Rattle.od_merge.proofs.Copying.{are-copies, filtered, left-in, left_of, moves_of, no-conflict}
+use Rattle.od_merge.proofs.Copying.{are-copies, filtered, left-in, left_of, moves_of, no-conflict, here-some}
 use Rattle.od_merge.proofs.Order.{Apart, apart-filter, apart-sorted}
 
 -- ---- which rename moves a path
@@ -42,7 +41,7 @@ by-renamer : (renames : List (Path × Path)) (p : Path) → moved renames p ≡ 
 by-renamer [] p = refl
 by-renamer (r ∷ renames) p = by-renamer-at (is_from r.0 p) r (renamer renames p) p (moved renames p) (by-renamer renames p)
 
-same-pair : (a b : Path × Path) → Some a ≡ Some b → a ≡ b
+pub same-pair : (a b : Path × Path) → Some a ≡ Some b → a ≡ b
 same-pair a b is = cc is
 
 found-at : (t : Bool) (f : Path × Path → Bool) (x r : Path × Path) (xs : List (Path × Path)) → f x ≡ t → cond t (Some x) (find f xs) ≡ Some r
@@ -120,10 +119,6 @@ above-by tree drive (Some (File d)) top path is from_root below some = absurd (t
 pub drive-above : (tree : Tree) → IsDriveTree tree → (top path : Path) → nat_lt 0 (length top) ≡ true → is_below top path ≡ true → is_some (at tree path) ≡ true → at tree top ≡ Some Folder
 drive-above tree drive top path from_root below some = above-by tree drive (at tree top) top path refl from_root below some
 
-some-here : (s : Sides) (q : Path) (x y : Option Content) → is_conflict_of s q x y ≡ true → is_some x ≡ true
-some-here s q None y is = absurd (false≢true is)
-some-here s q (Some x) y is = refl
-
 abbrev pub AreNew : List Path → List (Path × Path) → Type 0
 AreNew taken [] = Unit {0}
 AreNew taken (r ∷ rs) = (is_in r.1 taken ≡ false) × AreNew (taken ++ r.1 ∷ []) rs
@@ -138,7 +133,7 @@ not-again taken x r rs new has =
     let second = (or_parts (is_in r.1 taken) (is_in r.1 (x.1 ∷ [])) (sym (in-joined r.1 taken (x.1 ∷ [])) ∙ new-free (taken ++ x.1 ∷ []) rs r new has)).1 in
     (or_parts (is_path r.1 x.1) false second).0
 
-turn : (a b : Path) → is_path a b ≡ true → is_path b a ≡ true
+pub turn : (a b : Path) → is_path a b ≡ true → is_path b a ≡ true
 turn a b is = subst (λ (p : Path). is_path p a ≡ true) (same-path a b is) (path-self a)
 
 new-once : (taken : List Path) (rs : List (Path × Path)) (r q : Path × Path) → AreNew taken rs → In r rs → In q rs → is_path r.1 q.1 ≡ true → r ≡ q
@@ -155,7 +150,7 @@ pub nested : (s : Sides) → AreTrees s → (a b : Path) → is_conflict s a ≡
 nested s trees a b first second = false_from_ne_true (is_below a b)
     (λ below.
     let from_root = long s trees.there.root a (conflict-there s a (at s.local a) (at s.remote a) first) in
-    let here = trees.here a b from_root below (some-here s b (at s.local b) (at s.remote b) second) in
+    let here = trees.here a b from_root below (here-some s b (at s.local b) (at s.remote b) second) in
     let there = drive-above s.remote trees.there a b from_root below (conflict-there s b (at s.local b) (at s.remote b) second) in
     let folders : is_conflict_of s a (Some Folder) (Some Folder) ≡ true = sym (ap (λ x. is_conflict_of s a x (at s.remote a)) here ∙ ap (λ x. is_conflict_of s a (Some Folder) x) there) ∙ first in
     false≢true folders)
@@ -197,7 +192,7 @@ module _ (s : Sides) (trees : AreTrees s) (renames : List (Path × Path)) (copie
   free-here r has = false_from_ne_true (is_some (at s.local r.1)) (λ some. true≢false (sym (has_taken r.1 some) ∙ new-free taken renames r new has))
 
   old-some : (r : Path × Path) → In r renames → is_some (at s.local r.0) ≡ true
-  old-some r has = some-here s r.0 (at s.local r.0) (at s.remote r.0) (copy-in s renames r copies has).conflict
+  old-some r has = here-some s r.0 (at s.local r.0) (at s.remote r.0) (copy-in s renames r copies has).conflict
 
   new-long : (r : Path × Path) → In r renames → nat_lt 0 (length r.1) ≡ true
   new-long r has =
@@ -353,7 +348,7 @@ module _ (s : Sides) (trees : AreTrees s) (renames : List (Path × Path)) (copie
       root-by (renamer renames came.0) came.0 refl (same-path [] (moved renames came.0) came.2 ∙ by-renamer renames came.0) (at-in came.0 s.local ∙ came.1)
 
   pub still-root : at (renamed_tree renames s.local) [] ≡ None
-  still-root = no-some (at (renamed_tree renames s.local) []) (false_from_ne_true (is_some (at (renamed_tree renames s.local) [])) some-root)
+  still-root = no-wanted (at (renamed_tree renames s.local) []) (false_from_ne_true (is_some (at (renamed_tree renames s.local) [])) some-root)
 
   -- ---- a conflict that no rename moves is kept after them
   none-below-old-from : (r : Path × Path) (q : Path) → In r renames → is_conflict s q ≡ true → is_below q r.0 ≡ false
@@ -365,7 +360,7 @@ module _ (s : Sides) (trees : AreTrees s) (renames : List (Path × Path)) (copie
       or_from (is_from r.0 q || is_from r.1 q) (is_below q r.0 || is_below q r.1)
       (or_from (is_from r.0 q) (is_from r.1 q)
       (false_from_ne_true (is_from r.0 q) (λ from. true≢false (sym (from-below r.0 q from other) ∙ none-below-old r q has conflict)))
-      (none-new-here r q has (some-here s q (at s.local q) (at s.remote q) conflict)))
+      (none-new-here r q has (here-some s q (at s.local q) (at s.remote q) conflict)))
       (or_from (is_below q r.0) (is_below q r.1) below ((copy-in s renames r copies has).beside q ∙ below))
 
   far : (q : Path) (rs : List (Path × Path)) → ((r : Path × Path) → In r rs → In r renames) → ((r : Path × Path) → In r rs → is_path r.0 q ≡ false) → is_conflict s q ≡ true → list_any (is_near q) rs ≡ false

@@ -10,6 +10,7 @@ use Rattle.od_merge.specs.Instances.{all, d, f, with_file}
 use Rattle.od_merge.specs.Sides.{at, is_below, is_file, is_from, is_path, paths_of, sides_of}
 use Rattle.od_merge.specs.Steps.{AreTrees, IsDriveTree}
 use Rattle.od_merge.proofs.Lists.{Path, at-in, same-path}
+use Rattle.od_merge.proofs.Digests.{some-file}
 
 one-of : (path : Path) (a b : Bool) → is_path path (d ∷ []) ≡ a → is_path path (d ∷ (f ∷ [])) ≡ b → (a || (b || false)) ≡ true → (path ≡ d ∷ []) ⊎ (path ≡ d ∷ (f ∷ []))
 one-of path true b first second has = inl (same-path path (d ∷ []) first)
@@ -68,10 +69,6 @@ closed-one top path long from (inr path_is) = here top (from-file top long (subs
 no-longer : (path : Path) → (path ≡ d ∷ []) ⊎ (path ≡ d ∷ (f ∷ [])) → nat_lt 2 (length path) ≡ true → ⊥
 no-longer path (inl is) long = false≢true (sym (ap (λ (p : Path). nat_lt 2 (length p)) is) ∙ long)
 no-longer path (inr is) long = false≢true (sym (ap (λ (p : Path). nat_lt 2 (length p)) is) ∙ long)
-
-some-file : (x : Option Content) → is_file x ≡ true → is_some x ≡ true
-some-file None file = absurd (false≢true file)
-some-file (Some x) file = refl
 
 below-file : (top path : Path) → is_file (at with_file top) ≡ true → is_below top path ≡ true → (top ≡ d ∷ []) ⊎ (top ≡ d ∷ (f ∷ [])) → (path ≡ d ∷ []) ⊎ (path ≡ d ∷ (f ∷ [])) → ⊥
 below-file top path file below (inl is) one = false≢true (sym (ap (λ (p : Path). is_file (at with_file p)) is) ∙ file)

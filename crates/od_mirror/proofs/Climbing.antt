@@ -1,5 +1,5 @@
 -- A climb from folder to folder finds the path, in as many steps as there are nodes.
-use Rattle.std.proofs.Common.{◌≡◌, ℕ, suc, ◌+◌, ◌-◌, ◌<◌, Bool, true, false, cond, List, [], ◌∷◌, ◌++◌, length, reverse, is_some, nat_eq, Option, Some, None, refl, ap, sym, ◌∙◌, append_assoc, arith}
+use Rattle.std.proofs.Common.{◌≡◌, ℕ, zero, suc, ◌+◌, ◌-◌, ◌<◌, Bool, true, false, cond, List, [], ◌∷◌, ◌++◌, length, reverse, is_some, nat_eq, Option, Some, None, refl, ap, sym, ◌∙◌, append_assoc, arith}
 use Rattle.std.proofs.lemmas.List.{reverse-append, length-map}
 use Rattle.std.proofs.lemmas.Bool.Decides.{nat_tests}
 use Rattle.gd_item.specs.declared.item.Item.{Item}
@@ -82,3 +82,17 @@ pub names-lost : (items : List Item) (number at index : ℕ) (names : List (List
     → None ≡ path_of (nodes items) number
 names-lost items number at index names more apart step so_far =
     sym (so_far ∙ ap (λ path. with_names path (reverse names)) (climb-lost (nodes items) at index (within-nodes items index more) (not-one at apart) (sym step)))
+
+-- a climb that ends at the root
+root-path : (steps : ℕ) (all : List Node) → path_within steps all 1 ≡ Some []
+root-path zero all = refl
+root-path (suc steps) all = refl
+
+pub names-end : (items : List Item) (number at index : ℕ) (names path : List (List ℕ)) → at ≡ 1 → path ≡ reverse names
+    → path_of (nodes items) number ≡ with_names (path_within (length (nodes items) - index) (nodes items) at) (reverse names)
+    → Some path ≡ path_of (nodes items) number
+names-end items number at index names path one is so_far =
+    ap Some is
+    ∙ sym
+    (so_far ∙ ap (λ n. with_names (path_within (length (nodes items) - index) (nodes items) n) (reverse names)) one
+    ∙ ap (λ top. with_names top (reverse names)) (root-path (length (nodes items) - index) (nodes items)))

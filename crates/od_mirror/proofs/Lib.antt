@@ -1,14 +1,6 @@
-pub mod Based
 pub mod Climbing
-pub mod Fed
 pub mod Keyed
+pub mod Learned
+pub mod Lookups
 pub mod Misfits
-pub mod Numbered
-pub mod Placing
-pub mod Pulling
 pub mod Rising
-pub mod Rooted
-pub mod Shown
-pub mod Standing
-pub mod Told
-pub mod Uncounted

@@ -6,23 +6,14 @@ ghost use Rattle.gd_item.specs.Nodes.{item_node, node_at, is_folder_kind, path_o
 ghost use Rattle.od_mirror.specs.Climbs as climb;
 ghost use Rattle.od_mirror.specs.Climbs.{Rise, step_up};
 ghost use Rattle.od_mirror.specs.Pulled.{nodes, IsLeastBad, AllFit};
+ghost use Rattle.od_mirror.specs.Places.{ArePlaces, AreFirsts};
 ghost use Rattle.od_mirror.specs.Pulled as pulled;
 
-use gd_item::{Item, ItemId, Kind};
-use gd_names::{List, NoMemory, Path, Text, same_caseless};
+use crate::places::{Spot, first_in, firsts_of, item_at, places_of};
+use gd_item::{Item, Kind};
+use gd_names::{List, NoMemory, Path, Text};
 use std::alloc::Global;
-
-/// The item of a number, the first of them.
-fn item_at(items: &[Item], number: u64) -> Option<&Item>
-    ensures { option_map item_node (option_copied result) ≡ node_at number (nodes items.now) }
-{
-    for item in items {
-        if item.id.0 == number {
-            return Some(item);
-        }
-    }
-    None
-}
+use std::collections::BTreeMap;
 
 fn is_folder_item(item: &Item) -> bool
     ensures { result ≡ is_folder_kind item.now.kind }
@@ -36,29 +27,36 @@ fn is_folder_item(item: &Item) -> bool
 }
 
 /// Whether the item of a number is there, and a folder.
-fn is_folder_there(items: &[Item], number: u64) -> bool
+fn is_folder_there(items: &[Item], places: &BTreeMap<u64, usize>, number: u64) -> bool
+    requires { ArePlaces items.now places.now.entries }
     ensures { result ≡ drive.is_some_folder (node_at number (nodes items.now)) }
 {
-    match item_at(items, number) {
+    match item_at(items, places, number) {
         Some(item) => is_folder_item(item),
         None => false,
     }
 }
 
 /// Whether the number is that of the root or of a folder.
-fn is_folder(items: &[Item], number: u64) -> bool
+fn is_folder(items: &[Item], places: &BTreeMap<u64, usize>, number: u64) -> bool
+    requires { ArePlaces items.now places.now.entries }
     ensures { result ≡ drive.is_folder number (nodes items.now) }
 {
-    number == 1 || is_folder_there(items, number)
+    number == 1 || is_folder_there(items, places, number)
 }
 
 /// The name of an item and the number of its folder, if that is a folder.
-fn step_above(items: &[Item], number: u64) -> Option<(&Text, u64)>
+fn step_above<'a>(
+    items: &'a [Item],
+    places: &BTreeMap<u64, usize>,
+    number: u64,
+) -> Option<(&'a Text, u64)>
+    requires { ArePlaces items.now places.now.entries }
     ensures { option_map (λ step. (step.0.now, step.1)) result ≡ step_up (nodes items.now) number }
 {
-    let item = item_at(items, number)?;
+    let item = item_at(items, places, number)?;
     let parent = item.parent?;
-    if is_folder(items, parent.0) {
+    if is_folder(items, places, parent.0) {
         Some((&item.name, parent.0))
     } else {
         None
@@ -66,7 +64,8 @@ fn step_above(items: &[Item], number: u64) -> Option<(&Text, u64)>
 }
 
 /// Whether the folders above an item lead up to the root.
-fn leads_up(items: &[Item], number: u64) -> bool
+fn leads_up(items: &[Item], places: &BTreeMap<u64, usize>, number: u64) -> bool
+    requires { ArePlaces items.now places.now.entries }
     ensures { result ≡ is_some (path_of (nodes items.now) number) }
 {
     let mut at = number;
@@ -74,7 +73,7 @@ fn leads_up(items: &[Item], number: u64) -> bool
         if at == 1 {
             return true;
         }
-        match step_above(items, at) {
+        match step_above(items, places, at) {
             Some((_, parent)) => at = parent,
             None => return false,
         }
@@ -91,7 +90,13 @@ fn path_down(mut names: Vec<Text>) -> Path
 }
 
 /// The path of an item, if its folders lead up to the root.
-pub(crate) fn path_up(alloc: Global, items: &[Item], number: u64) -> Result<Option<Path>, NoMemory>
+pub(crate) fn path_up(
+    alloc: Global,
+    items: &[Item],
+    places: &BTreeMap<u64, usize>,
+    number: u64,
+) -> Result<Option<Path>, NoMemory>
+    requires { ArePlaces items.now places.now.entries }
     ensures { IfOk result (λ path. path ≡ path_of (nodes items.now) number) }
 {
     let mut names = Vec::new(alloc);
@@ -100,7 +105,7 @@ pub(crate) fn path_up(alloc: Global, items: &[Item], number: u64) -> Result<Opti
         if at == 1 {
             return Ok(Some(path_down(names)));
         }
-        match step_above(items, at) {
+        match step_above(items, places, at) {
             Some((name, parent)) => {
                 names.push(name.clone()?)?;
                 at = parent;
@@ -115,55 +120,64 @@ pub(crate) fn path_up(alloc: Global, items: &[Item], number: u64) -> Result<Opti
     }
 }
 
-fn is_same_parent(a: Option<ItemId>, b: Option<ItemId>) -> bool
-    ensures { result ≡ drive.is_same_parent (option_map (λ id. id.0) a) (option_map (λ id. id.0) b) }
+/// Whether an earlier sibling has the item's name but for case.
+fn has_twin(
+    alloc: Global,
+    items: &[Item],
+    firsts: &BTreeMap<Spot, u64>,
+    item: &Item,
+) -> Result<bool, NoMemory>
+    requires rise { Rise (nodes items.now) }
+    requires firsts { AreFirsts items.now firsts.now.entries }
+    ensures { IfOk result (λ twin. twin ≡ drive.has_twin (nodes items.now) (item_node item.now)) }
 {
-    match a {
-        Some(a) => match b {
-            Some(b) => a.0 == b.0,
-            None => false,
+    if item.id.0 == 1 {
+        return Ok(false);
+    }
+    match item.parent {
+        Some(parent) => match first_in(alloc, items, firsts, parent.0, &item.name)? {
+            Some(first) => Ok(first < item.id.0),
+            None => Ok(false),
         },
-        None => false,
+        None => Ok(false),
     }
 }
 
-/// Whether the other item is an earlier sibling with the same name but for case.
-fn is_twin(item: &Item, other: &Item) -> bool
-    ensures { result ≡ drive.is_twin (item_node item.now) (item_node other.now) }
+fn misfits(
+    alloc: Global,
+    items: &[Item],
+    places: &BTreeMap<u64, usize>,
+    firsts: &BTreeMap<Spot, u64>,
+    item: &Item,
+) -> Result<bool, NoMemory>
+    requires rise { Rise (nodes items.now) }
+    requires places { ArePlaces items.now places.now.entries }
+    requires firsts { AreFirsts items.now firsts.now.entries }
+    ensures { IfOk result (λ bad. bad ≡ climb.misfits (nodes items.now) (item_node item.now)) }
 {
-    other.id.0 < item.id.0
-        && other.id.0 != 1
-        && item.id.0 != 1
-        && is_same_parent(other.parent, item.parent)
-        && same_caseless(&other.name, &item.name)
-}
-
-fn has_twin(items: &[Item], item: &Item) -> bool
-    ensures { result ≡ drive.has_twin (nodes items.now) (item_node item.now) }
-{
-    for other in items {
-        if is_twin(item, other) {
-            return true;
-        }
+    if !leads_up(items, places, item.id.0) {
+        return Ok(true);
     }
-    false
+    let twin = has_twin(alloc, items, firsts, item)?;
+    Ok(twin)
 }
 
-fn misfits(items: &[Item], item: &Item) -> bool
-    ensures { result ≡ climb.misfits (nodes items.now) (item_node item.now) }
+fn first_misfit(
+    alloc: Global,
+    items: &[Item],
+    places: &BTreeMap<u64, usize>,
+) -> Result<Option<u64>, NoMemory>
+    requires rise { Rise (nodes items.now) }
+    requires places { ArePlaces items.now places.now.entries }
+    ensures { IfOk result (λ first. first ≡ climb.first_misfit (nodes items.now)) }
 {
-    !leads_up(items, item.id.0) || has_twin(items, item)
-}
-
-fn first_misfit(items: &[Item]) -> Option<u64>
-    ensures { result ≡ climb.first_misfit (nodes items.now) }
-{
+    let firsts = firsts_of(alloc, items)?;
     for item in items {
-        if misfits(items, item) {
-            return Some(item.id.0);
+        if misfits(alloc, items, places, &firsts, item)? {
+            return Ok(Some(item.id.0));
         }
     }
-    None
+    Ok(None)
 }
 
 /// The least number that does not fit where there is no root: its own, or that of an item before it.
@@ -179,14 +193,16 @@ fn first_without_root(items: &[Item]) -> u64
 }
 
 /// The least number that does not fit.
-pub(crate) fn first_bad(items: &[Item]) -> Option<u64>
+pub(crate) fn first_bad(alloc: Global, items: &[Item]) -> Result<Option<u64>, NoMemory>
     requires { Rise (nodes items.now) }
-    ensures none { result ≡ None → AllFit (nodes items.now) }
-    ensures some { (number : ℕ) → result ≡ Some number → IsLeastBad (nodes items.now) number }
+    ensures none { IfOk result (λ bad. bad ≡ None → AllFit (nodes items.now)) }
+    ensures some { (number : ℕ) → IfOk result (λ bad. bad ≡ Some number → IsLeastBad (nodes items.now) number) }
 {
-    if is_folder_there(items, 1) {
-        first_misfit(items)
+    let places = places_of(alloc, items)?;
+    if is_folder_there(items, &places, 1) {
+        let first = first_misfit(alloc, items, &places)?;
+        Ok(first)
     } else {
-        Some(first_without_root(items))
+        Ok(Some(first_without_root(items)))
     }
 }

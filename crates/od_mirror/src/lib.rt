@@ -2,10 +2,9 @@
 #![tactic(auto)]
 
 mod climb;
-mod laws;
 mod mirror;
+mod places;
 mod view;
 
-pub use laws::{a_feed_gives_the_drive, a_first_pull_gives_the_drive, a_pull_gives_the_drive};
 pub use mirror::{Mirror, PullFault, Taken};
 pub use view::MirrorView;

@@ -5,7 +5,7 @@ ghost use Rattle.std.specs.Option.{option_copied};
 ghost use Rattle.std.specs.Ordering.{nat_cmp};
 ghost use Rattle.std.specs.BTreeMap.{insert_entry};
 ghost use Rattle.gd_item.specs.Ids.{item_id};
-ghost use Rattle.od_mirror.specs.Climbs.{IsKeyed};
+ghost use Rattle.od_mirror.specs.Climbs.{IsKeyed, Rise};
 ghost use Rattle.od_mirror.specs.Pulled.{begun, after_page, taken_of, nodes, known_from, known_kind, known_item, with_record, with_records, IsView, IsLeastBad, AllFit};
 
 use crate::climb::first_bad;
@@ -82,6 +82,14 @@ impl Mirror {
         }
     }
 
+    /// A pull that goes on from a view, with its items and its token. Takes no memory.
+    pub fn resume(alloc: Global, view: MirrorView) -> Mirror
+        ensures { result ≡ begun view.items (Some view.token) }
+    {
+        let MirrorView { items, token } = view;
+        Mirror::start(alloc, items, Some(token))
+    }
+
     /// The token of the next request.
     pub fn token(&self) -> Option<&Text>
         ensures { option_copied result ≡ self.now.token }
@@ -128,6 +136,7 @@ impl Mirror {
     pub fn finish(self) -> Result<MirrorView, PullFault>
         requires { IsSome self.last }
         ensures ok { IfOk result (λ view. IsView self view) }
+        ensures rise { IfOk result (λ view. Rise (nodes view.items)) }
         ensures bad { (n : ℕ) → IsErrOf result (PullFault.BadPages (item_id n)) → IsLeastBad (nodes (values_of self.items)) n }
     {
         let Mirror {
@@ -166,6 +175,7 @@ fn fitting(
 ) -> Result<Vec<Item>, PullFault>
     requires { IsKeyed items.entries }
     ensures ok { IfOk result (λ sorted. (sorted.items ≡ values_of (with_records items.entries waiting)) × AllFit (nodes sorted.items)) }
+    ensures rise { IfOk result (λ sorted. Rise (nodes sorted.items)) }
     ensures bad { (n : ℕ) → IsErrOf result (PullFault.BadPages (item_id n)) → IsLeastBad (nodes (values_of (with_records items.entries waiting))) n }
 {
     take_records(&mut items, waiting)?;
@@ -176,10 +186,12 @@ fn fitting(
 fn all_fitting(alloc: Global, items: BTreeMap<u64, Item>) -> Result<Vec<Item>, PullFault>
     requires { IsKeyed items.entries }
     ensures ok { IfOk result (λ sorted. (sorted.items ≡ values_of items.entries) × AllFit (nodes sorted.items)) }
+    ensures rise { IfOk result (λ sorted. Rise (nodes sorted.items)) }
     ensures bad { (n : ℕ) → IsErrOf result (PullFault.BadPages (item_id n)) → IsLeastBad (nodes (values_of items.entries)) n }
 {
     let sorted = in_order(alloc, items)?;
-    match first_bad(&sorted) {
+    let bad = first_bad(alloc, &sorted)?;
+    match bad {
         Some(number) => Err(PullFault::BadPages(ItemId(number))),
         None => Ok(sorted),
     }

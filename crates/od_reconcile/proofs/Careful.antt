@@ -1,6 +1,6 @@
 -- What each step of a plan is about, and which of them are moves.
-use Rattle.std.proofs.Common.{◌≡◌, ◌⊎◌, inl, inr, ℕ, Bool, true, false, not, ◌&&◌, ◌||◌, cond, is_none, is_some, List, [], ◌∷◌, ◌++◌, map, filter, append-nil, append_assoc, Option, Some, None, All, refl, ap, sym, subst, ◌∙◌}
-use Rattle.std.proofs.lemmas.Bool.{true≢false, false≢true, and_parts, or_parts, or_from, or_left, or_right, not_from_false, and_from, cond-true, cond-false, false_from_ne_true}
+use Rattle.std.proofs.Common.{◌≡◌, ◌⊎◌, inl, inr, ℕ, Bool, true, false, not, ◌&&◌, ◌||◌, cond, is_none, is_some, List, [], ◌∷◌, ◌++◌, filter, append-nil, append_assoc, Option, Some, None, All, refl, ap, sym, subst, ◌∙◌}
+use Rattle.std.proofs.lemmas.Bool.{true≢false, false≢true, and_parts, or_parts, or_from, or_left, or_right, not_from_false, and_from, cond-false, false_from_ne_true}
 use Rattle.std.proofs.lemmas.List.Elements.{All-append, All-cons, All-nil, filter_map-append}
 use Rattle.std.specs.List.{cons_option, filter_map, list_any}
 use Rattle.gd_item.specs.declared.digest.Digest.{Digest}
@@ -11,13 +11,13 @@ use Rattle.od_merge.specs.declared.content.Content.{Content}
 use Rattle.od_merge.specs.declared.content.Content.TheVariants.{Folder, File}
 use Rattle.od_merge.specs.declared.why.Why.{Why}
 use Rattle.od_merge.specs.declared.why.Why.TheVariants.{NoCopyName}
-use Rattle.od_merge.specs.Sides.{Sides, Tree, at, digest_of, is_file, is_folder, is_kept, is_path, same}
+use Rattle.od_merge.specs.Sides.{Sides, at, digest_of, is_file, is_folder, is_kept, is_path, same}
 use Rattle.od_merge.specs.Merging.{Limits, all_paths, first_held, is_going, is_left, prefixes, target, why_held}
 use Rattle.od_merge.specs.Pairs.{and_pair, drive_pairs, is_sent_now, local_pairs, pairs_from, source_for}
 use Rattle.od_merge.specs.Steps.{AreRenamed, deepest_first, is_fetched, is_sent, needs_folder}
 use Rattle.od_merge.proofs.Agreements.{gone-here-as-base, gone-there-none, not-left-going, target-clear, target-free}
 use Rattle.od_merge.proofs.Cases.{same-nodes}
-use Rattle.od_merge.proofs.Digests.{none-fetched, none-sent, replaced-as-base}
+use Rattle.od_merge.proofs.Digests.{none-fetched, none-sent, replaced-as-base, some-file}
 use Rattle.od_merge.proofs.Lists.{Path, in-joined, is_in, path-self, same-path}
 use Rattle.od_merge.proofs.Order.{Apart, apart-filter}
 use Rattle.od_merge.proofs.Proper.{In}
@@ -25,16 +25,15 @@ use Rattle.od_reconcile.specs.Doing.{known_file}
 use Rattle.od_reconcile.specs.Entries.{remote_tree}
 use Rattle.od_reconcile.specs.Moving.{fits_here, is_moved_from, is_moved_to, is_source_here, is_target_here, pair_to}
 use Rattle.od_reconcile.specs.Plans.{down_list, fetch_here, folder_here, folder_there, item_at, over_of, patch_there, removal_here, removal_there, send_there, up_list}
-use Rattle.od_reconcile.specs.Promises.{IsAgreedHere, IsCareful, IsFreeHere, IsFreeThere, IsUnlikeHere, IsUnlikeThere, pair_here, pair_there}
+use Rattle.od_reconcile.specs.Promises.{IsAgreedHere, IsFreeHere, IsFreeThere, IsUnlikeHere, IsUnlikeThere, pair_here, pair_there}
 use Rattle.od_reconcile.specs.declared.types.Down.{Down}
 use Rattle.od_reconcile.specs.declared.types.Down.TheVariants as down
-use Rattle.od_reconcile.specs.declared.types.Plan.{Plan}
 use Rattle.od_reconcile.specs.declared.types.Up.{Up}
 use Rattle.od_reconcile.specs.declared.types.Up.TheVariants as up
 use Rattle.od_reconcile.proofs.Doings.{if_is, none-map, picked, same-map, then_by}
-use Rattle.od_reconcile.proofs.HereDoing.{Fetches, Moves, RemovesFile, RemovesFolder, all-apart, comes, is_removed, local-pair, no-fetch, no-removal, removes}
-use Rattle.od_reconcile.proofs.PairFacts.{Pairs, found-to, its-pair, none-to, tos, tos-apart, tos-end, apart-middle}
-use Rattle.od_reconcile.proofs.ThereDoing.{PatchesThere, RemovesThere, drive-pair, is_made_there, is_removed_there, is_sent_alone, long-file, no-removal-there, patches-there, removes-there, some-file}
+use Rattle.od_reconcile.proofs.HereDoing.{Fetches, Moves, RemovesFile, RemovesFolder, all-apart, comes, is_removed, local-pair, no-fetch, no-removal, removes, unknown}
+use Rattle.od_reconcile.proofs.PairFacts.{Pairs, found-to, its-pair, none-to, tos, tos-apart, tos-end, apart-middle, apart-first}
+use Rattle.od_reconcile.proofs.ThereDoing.{drive-pair, is_made_there, is_removed_there, is_sent_alone, long-file, no-removal-there, patches-there, removes-there}
 
 -- ---- what is so of each that a list gives
 all-picked-at : {Y : Type 0} (P : Y → Type 0) (y : Option Y) (ys : List Y) → ((z : Y) → y ≡ Some z → P z) → All P ys → All P (cons_option y ys)
@@ -83,15 +82,6 @@ apart-of (first ∷ a) path b apart =
     let none = or_parts (is_in first a) (is_in first (path ∷ b)) (sym (in-joined first a (path ∷ b)) ∙ apart.0) in
     or_from (is_path path first) (is_in path (a ++ b)) (other-way path first (or_parts (is_path first path) (is_in first b) none.1).0) (apart-of a path b apart.1)
 
-apart-front : (a b : List Path) → Apart (a ++ b) → Apart a
-apart-front [] b apart = tt
-apart-front (first ∷ a) b apart = ((or_parts (is_in first a) (is_in first b) (sym (in-joined first a b) ∙ apart.0)).0, apart-front a b apart.1)
-
-unknown-file : (b : Option Content) → same (Some (File None)) b ≡ true → ⊥
-unknown-file None is = false≢true is
-unknown-file (Some Folder) is = false≢true is
-unknown-file (Some (File d)) is = false≢true is
-
 -- ---- pairs in order of their new paths
 module _ (fits : Path → Path → Bool) (sources : List Path) where
   kept-at : (x : Option Path) (to : Path) (pairs : Pairs) (pair : Path × Path) → In pair pairs → In pair (and_pair x to pairs)
@@ -127,7 +117,7 @@ module _ (fits : Path → Path → Bool) (sources : List Path) where
   next-apart (Some from) to pairs rest apart = subst (λ (ps : List Path). Apart ps) (sym (tos-end pairs (from, to) rest)) apart
 
   final-apart : (pairs : Pairs) (rest : List Path) → Apart (tos pairs ++ rest) → Apart (tos (pairs_from fits sources pairs rest))
-  final-apart pairs [] apart = apart-front (tos pairs) [] apart
+  final-apart pairs [] apart = apart-first (tos pairs) [] apart
   final-apart pairs (to ∷ rest) apart = final-apart (and_pair (source_for fits sources pairs to) to pairs) rest (next-apart (source_for fits sources pairs to) to pairs rest apart)
 
   pub in-their-order : (pairs : Pairs) (rest : List Path) → Apart (tos pairs ++ rest) → pairs ++ filter_map (pair_to (pairs_from fits sources pairs rest)) rest ≡ pairs_from fits sources pairs rest
@@ -210,7 +200,7 @@ module _ (m : Sides) (is : AreRenamed m) (items : List (Path × Item)) (remote_i
   agreed-fetch None path id digest size there fetched = inl there
   agreed-fetch (Some Folder) path id digest size there fetched = inr there
   agreed-fetch (Some (File None)) path id digest size there fetched =
-      absurd (unknown-file (m.base path) (sym (ap (λ (x : Option Content). same x (m.base path)) there) ∙ replaced path fetched (ap (λ (x : Option Content). is_file x) there)))
+      absurd (unknown (m.base path) (sym (ap (λ (x : Option Content). same x (m.base path)) there) ∙ replaced path fetched (ap (λ (x : Option Content). is_file x) there)))
   agreed-fetch (Some (File (Some over))) path id digest size there fetched =
       (there, sym (same-nodes (at m.local path) (m.base path) (replaced path fetched (ap (λ (x : Option Content). is_file x) there))) ∙ there)
 

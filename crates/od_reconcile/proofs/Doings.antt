@@ -1,14 +1,12 @@
 -- What the lists of a plan do at a path.
-use Rattle.std.proofs.Common.{◌≡◌, ◌⊎◌, inl, inr, ℕ, Bool, true, false, not, ◌&&◌, ◌||◌, cond, is_none, is_some, nat_lt, length, List, [], ◌∷◌, ◌++◌, map, filter, append-nil, append_assoc, Option, Some, None, refl, ap, sym, subst, ◌∙◌}
-use Rattle.std.proofs.lemmas.Bool.{true≢false, false≢true, and_parts, and_from, and_left, and_right, or_parts, or_from, or_left, or_right, not-true, false_from_ne_true}
-use Rattle.std.proofs.lemmas.List.Elements.{filter_map-append}
-use Rattle.std.specs.List.{cons_option, filter_map, list_any}
-use Rattle.gd_item.specs.declared.digest.Digest.{Digest}
+use Rattle.std.proofs.Common.{◌≡◌, Bool, true, false, ◌&&◌, ◌||◌, cond, List, [], ◌∷◌, ◌++◌, map, filter, Option, Some, None, refl, ap, sym, subst, ◌∙◌}
+use Rattle.std.proofs.lemmas.Bool.{false≢true, or_left, or_right}
+use Rattle.std.specs.List.{cons_option, filter_map}
 use Rattle.od_merge.specs.declared.content.Content.{Content}
-use Rattle.od_merge.specs.declared.content.Content.TheVariants.{Folder, File}
+use Rattle.od_merge.specs.declared.content.Content.TheVariants.{Folder}
 use Rattle.od_merge.specs.Sides.{is_path}
-use Rattle.od_merge.specs.Steps.{by_depth, deepest_first, done, steps_at}
-use Rattle.od_merge.proofs.Lists.{Path, deepest-in, in-joined, is_in, path-self, same-path}
+use Rattle.od_merge.specs.Steps.{deepest_first, done, steps_at}
+use Rattle.od_merge.proofs.Lists.{Path, deepest-in, is_in, path-self, same-path}
 use Rattle.od_merge.proofs.Phases.{chosen, done-then}
 use Rattle.od_reconcile.specs.Doing.{Step}
 

@@ -1,9 +1,8 @@
 -- Where both sides are equal, a plan has nothing to do.
-use Rattle.std.proofs.Common.{◌≡◌, ◌⊎◌, inl, inr, ℕ, Bool, true, false, not, ◌&&◌, ◌||◌, cond, is_none, is_some, nat_lt, length, arith, List, [], ◌∷◌, ◌++◌, map, filter, Option, Some, None, refl, ap, sym, subst, ◌∙◌}
-use Rattle.std.proofs.lemmas.Bool.{true≢false, false≢true, and_parts, and_from, and_left, and_right, or_left, not-true, not_from_true, false_from_ne_true, cond-false, lt-ltb}
+use Rattle.std.proofs.Common.{◌≡◌, ℕ, Bool, true, false, not, ◌&&◌, ◌||◌, cond, is_none, is_some, nat_lt, length, List, [], ◌∷◌, ◌++◌, map, filter, Option, Some, None, refl, ap, sym, ◌∙◌}
+use Rattle.std.proofs.lemmas.Bool.{true≢false, false≢true, and_parts, and_left, and_right, not-true, not_from_true, false_from_ne_true, cond-false}
 use Rattle.std.specs.List.{cons_option, filter_map, list_any}
 use Rattle.std.specs.Option.{option_map}
-use Rattle.gd_item.specs.declared.digest.Digest.{Digest}
 use Rattle.gd_item.specs.declared.item.Item.{Item}
 use Rattle.od_keeper.specs.declared.image.BaseRow.{BaseRow}
 use Rattle.od_merge.specs.declared.content.Content.{Content}
@@ -11,26 +10,26 @@ use Rattle.od_merge.specs.declared.content.Content.TheVariants.{Folder, File}
 use Rattle.od_merge.specs.declared.why.Why.{Why}
 use Rattle.od_merge.specs.declared.why.Why.TheVariants.{BadName, PathTooLong, TooLarge, CaseClash, NoCopyName, Quota}
 use Rattle.gd_names.specs.Causes.{first_cause}
-use Rattle.od_merge.specs.Sides.{Sides, Tree, at, is_file, is_folder, is_from, is_kept, is_kept_node, is_other_kind, is_path, paths_of, same}
-use Rattle.od_merge.specs.Merging.{Limits, all_paths, conflicts, copied, copies, first_held, is_barred, is_changed, is_conflict, is_conflict_of, is_going, is_left, is_local_alone, is_needed, merged, own_cause, prefixes, renamed, renamed_tree, renames, seen, target, wanted, why_held, without_copy}
+use Rattle.od_merge.specs.Sides.{Sides, Tree, at, is_file, is_folder, is_from, is_kept, is_other_kind, is_path, paths_of, same}
+use Rattle.od_merge.specs.Merging.{Limits, all_paths, conflicts, copied, copies, first_held, is_barred, is_changed, is_conflict, is_conflict_of, is_going, is_left, is_local_alone, is_needed, merged, own_cause, prefixes, renamed_tree, renames, seen, target, wanted, why_held, without_copy}
 use Rattle.od_merge.specs.Pairs.{drive_pairs, is_sent_now, local_pairs, may_move, pairs_from}
 use Rattle.od_merge.specs.Steps.{AreRenamed, AreTrees, IsClear, deepest_first, is_fetched, is_sent, needs_folder}
-use Rattle.od_merge.proofs.Agreements.{going-clear-here, going-clear-there, gone-other, lone-needs, target-clear}
+use Rattle.od_merge.proofs.Agreements.{going-clear-here, going-clear-there, gone-other, lone-needs, target-clear, folder-target, long-by}
 use Rattle.od_merge.proofs.Cases.{same-nodes}
-use Rattle.od_merge.proofs.Digests.{none-fetched, none-sent}
-use Rattle.od_merge.proofs.Doing.{known-same}
-use Rattle.od_merge.proofs.Lists.{Path, filter-in, is_in}
+use Rattle.od_merge.proofs.Digests.{none-fetched, none-sent, some-file}
+use Rattle.od_merge.proofs.Doing.{cond-none}
+use Rattle.od_merge.proofs.Lists.{Path, is_in}
 use Rattle.od_merge.proofs.Needs.{wanted-is}
 use Rattle.od_merge.proofs.Proper.{are-renamed}
 use Rattle.od_merge.proofs.Copying.{left_of, moves_of}
 use Rattle.od_merge.proofs.Renames.{at-renamed}
-use Rattle.od_merge.proofs.SideFacts.{goes}
+use Rattle.od_merge.proofs.SideFacts.{goes, is-folder}
 use Rattle.od_merge.proofs.Turns.{head-in, tail-in}
 use Rattle.od_reconcile.specs.Copying.{copy_path}
 use Rattle.od_reconcile.specs.Entries.{local_tree, remote_tree}
 use Rattle.od_reconcile.specs.Holding.{held_list, held_of}
 use Rattle.od_reconcile.specs.Moving.{is_moved_from, is_moved_to, is_source_there, is_target_there, pair_to}
-use Rattle.od_reconcile.specs.Plans.{IsPlan, begun, down_list, fetch_here, fetch_or_move, folder_here, folder_there, item_at, delete_of, limits_then, over_of, patch_there, removal_here, removal_of, removal_there, rename_of, renamed_sides, renames_made, send_there, up_list}
+use Rattle.od_reconcile.specs.Plans.{IsPlan, begun, down_list, fetch_here, fetch_or_move, folder_here, folder_there, item_at, delete_of, limits_then, over_of, patch_there, removal_here, removal_of, removal_there, rename_of, renamed_sides, send_there, up_list}
 use Rattle.od_reconcile.specs.Promises.{IsEmpty}
 use Rattle.od_reconcile.specs.declared.types.Down.TheVariants as down
 use Rattle.od_reconcile.specs.declared.types.Node.{Node}
@@ -39,8 +38,9 @@ use Rattle.od_reconcile.specs.declared.types.Up.TheVariants as up
 use Rattle.od_reconcile.proofs.Beside.{copies-beside}
 use Rattle.od_reconcile.proofs.Careful.{some-of}
 use Rattle.od_reconcile.proofs.Doings.{none-map}
-use Rattle.od_reconcile.proofs.Merged.{long-in}
-use Rattle.od_reconcile.proofs.ThereDoing.{file-not-folder, going-some, long-file, some-file}
+use Rattle.od_reconcile.proofs.Merged.{long-in, some-kept}
+use Rattle.od_reconcile.proofs.ThereDoing.{going-some, long-file}
+use Rattle.od_merge.proofs.MergeLaws.{filter-one-none, no-kind}
 
 none-map-at : {Y : Type 0} (y : Option Y) (ys : List Y) → y ≡ None → ys ≡ [] → cons_option y ys ≡ []
 none-map-at None ys none rest = rest
@@ -50,13 +50,9 @@ none-map-in : {Y : Type 0} (f : Path → Option Y) (paths : List Path) → ((pat
 none-map-in f [] none = refl
 none-map-in f (path ∷ paths) none = none-map-at (f path) (filter_map f paths) (none path (head-in path paths)) (none-map-in f paths (λ q has. none q (tail-in q path paths has)))
 
-none-filter-at : (t : Bool) (path : Path) (rest : List Path) → t ≡ false → rest ≡ [] → cond t (path ∷ rest) rest ≡ []
-none-filter-at true path rest fails none = absurd (true≢false fails)
-none-filter-at false path rest fails none = none
-
 none-filter : (test : Path → Bool) (paths : List Path) → ((path : Path) → test path ≡ false) → filter test paths ≡ []
 none-filter test [] none = refl
-none-filter test (path ∷ paths) none = none-filter-at (test path) path (filter test paths) (none path) (none-filter test paths none)
+none-filter test (path ∷ paths) none = filter-one-none (test path) path (filter test paths) (none path) (none-filter test paths none)
 
 -- ---- no conflict
 no-conflict-of : (s : Sides) (q : Path) (x y : Option Content) → same x y ≡ true → is_conflict_of s q x y ≡ false
@@ -70,11 +66,6 @@ no-conflict-of s q (Some (File d)) (Some (File e)) alike =
     and_left (s.passes q false && is_changed s q && not (same (Some (File d)) (Some (File e)))) (not (same (Some (File e)) (s.base q)))
     (and_right (s.passes q false && is_changed s q) (not (same (Some (File d)) (Some (File e)))) (not_from_true (same (Some (File d)) (Some (File e))) alike))
 
-other-itself : (x : Option Content) → is_other_kind x x ≡ false
-other-itself None = refl
-other-itself (Some Folder) = refl
-other-itself (Some (File d)) = refl
-
 same-three : {X : Type 0} (a b c : Bool) (x : X) → cond a x (cond b x (cond c x x)) ≡ x
 same-three true b c x = refl
 same-three false true c x = refl
@@ -86,33 +77,12 @@ kind-of None some folder = absurd (false≢true some)
 kind-of (Some Folder) some folder = absurd (true≢false folder)
 kind-of (Some (File d)) some folder = refl
 
-folder-is : (x : Option Content) → is_folder x ≡ true → x ≡ Some Folder
-folder-is None folder = absurd (false≢true folder)
-folder-is (Some Folder) folder = refl
-folder-is (Some (File d)) folder = absurd (false≢true folder)
-
-folder-or : (t : Bool) (x : Option Content) → x ≡ Some Folder → cond t (Some Folder) x ≡ Some Folder
-folder-or true x is = refl
-folder-or false x is = is
-
-no-either : {X : Type 0} (t : Bool) (x : Option X) → x ≡ None → cond t x None ≡ None
-no-either true x none = none
-no-either false x none = refl
-
-long-by : (tree : Tree) → at tree [] ≡ None → (q : Path) → is_some (at tree q) ≡ true → nat_lt 0 (length q) ≡ true
-long-by tree root [] some = absurd (false≢true (sym (ap (λ (x : Option Content). is_some x) root) ∙ some))
-long-by tree root (name ∷ names) some = lt-ltb 0 (length (name ∷ names)) (omega arith)
-
-some-kept : (passes : Path → Bool → Bool) (tree : Tree) (q : Path) (x : Option Content) → is_kept_node passes tree q x ≡ true → is_some x ≡ true
-some-kept passes tree q None kept = kept
-some-kept passes tree q (Some x) kept = refl
-
 module _ (limits : Limits) (m : Sides) (is : AreRenamed m) (items : List (Path × Item)) (remote_is : m.remote ≡ remote_tree items) (alike : (q : Path) → same (at m.local q) (at m.remote q) ≡ true) where
   one : (q : Path) → at m.local q ≡ at m.remote q
   one q = same-nodes (at m.local q) (at m.remote q) (alike q)
 
   no-other : (q : Path) → is_other_kind (at m.local q) (at m.remote q) ≡ false
-  no-other q = ap (λ (x : Option Content). is_other_kind x (at m.remote q)) (one q) ∙ other-itself (at m.remote q)
+  no-other q = ap (λ (x : Option Content). is_other_kind x (at m.remote q)) (one q) ∙ no-kind (at m.remote q)
 
   seen-is : (side : Tree) (q : Path) → seen m side q ≡ at side q
   seen-is side q = cond-false (is_other_kind (at m.local q) (at m.remote q) && not (is_kept m.passes side q)) None (at side q) (and_left (is_other_kind (at m.local q) (at m.remote q)) (not (is_kept m.passes side q)) (no-other q))
@@ -126,7 +96,7 @@ module _ (limits : Limits) (m : Sides) (is : AreRenamed m) (items : List (Path �
 
   target-at : (t : Bool) (q : Path) → is_folder (at m.remote q) ≡ t → nat_lt 0 (length q) ≡ true → IsClear m q → target m q ≡ at m.remote q
   target-at true q folder from_root clear =
-      folder-or (is_needed m q) (wanted m q) (wanted-there q clear ∙ folder-is (at m.remote q) folder) ∙ sym (folder-is (at m.remote q) folder)
+      folder-target (is_needed m q) (wanted m q) (wanted-there q clear ∙ is-folder (at m.remote q) folder) ∙ sym (is-folder (at m.remote q) folder)
   target-at false q folder from_root clear =
       ap (λ (b : Bool). cond b (Some Folder) (wanted m q)) (lone-needs m is q from_root (ap (λ (x : Option Content). is_folder x) (one q) ∙ folder) folder) ∙ wanted-there q clear
 
@@ -222,7 +192,7 @@ module _ (limits : Limits) (m : Sides) (is : AreRenamed m) (items : List (Path �
     not-held : (q : Path) → why_held limits m q ≡ None
     not-held q =
         cond-false (is_left m q) (cond (is_kept m.passes m.local q || list_any (is_path q) m.left) (Some NoCopyName) None) (cond (is_some (target m q)) (first_held limits m (prefixes q)) None) (none_left q)
-        ∙ no-either (is_some (target m q)) (first_held limits m (prefixes q)) (none-first (prefixes q))
+        ∙ cond-none (is_some (target m q)) (first_held limits m (prefixes q)) (none-first (prefixes q))
 
     empty-held : held_list limits m ≡ []
     empty-held = none-map (held_of limits m) (all_paths m) (λ q. ap (λ (x : Option Why). option_map (λ why. record { path = q; why = why }) x) (not-held q))

@@ -9,6 +9,8 @@ use Rattle.od_merge.specs.Merging.{in_order_from}
 use Rattle.od_reconcile.specs.Above.{fronts, fronts_from, with_fronts}
 use Rattle.od_merge.proofs.Lists.{Path, from-self, in-joined, in-order, in-order-from, in_order_joined, is_in, same-path}
 use Rattle.od_merge.proofs.Needs.{below-is-from, from-below}
+use Rattle.od_reconcile.proofs.Goes.{iff}
+use Rattle.od_reconcile.proofs.Wanting.{turn-four}
 
 abbrev front_paths : Path → List Path
 front_paths [] = []
@@ -39,11 +41,6 @@ and-nothing false = refl
 in-next : (x name : List ℕ) (q : Path) (paths : List Path) → is_in (x ∷ q) (map (λ path. name ∷ path) paths) ≡ (pointwise nat_eq x name && is_in q paths)
 in-next x name q [] = and-nothing (pointwise nat_eq x name)
 in-next x name q (path ∷ paths) = ap (λ b. (pointwise nat_eq x name && is_path q path) || b) (in-next x name q paths) ∙ and-over (pointwise nat_eq x name) (is_path q path) (is_in q paths)
-
-iff : (a b : Bool) → (a ≡ true → b ≡ true) → (b ≡ true → a ≡ true) → a ≡ b
-iff true b there back = sym (there refl)
-iff false true there back = back refl
-iff false false there back = refl
 
 lt-next : (a b : ℕ) → nat_lt a b ≡ nat_lt (suc a) (suc b)
 lt-next a b = iff (nat_lt a b) (nat_lt (suc a) (suc b)) (λ is. let low = ltb-true a b is in lt-ltb (suc a) (suc b) (omega (arith, low))) (λ is. let low = ltb-true (suc a) (suc b) is in lt-ltb a b (omega (arith, low)))
@@ -87,11 +84,8 @@ from-either-at : (t : Bool) (q o : Path) → is_path q o ≡ t → (is_below q o
 from-either-at true q o is = or-true (is_below q o) ∙ sym (subst (λ (p : Path). is_from q p ≡ true) (same-path q o is) (from-self q))
 from-either-at false q o is = iff (is_below q o || false) (is_from q o) (λ below. below-is-from q o (sym (or-false (is_below q o)) ∙ below)) (λ from. or-false (is_below q o) ∙ from-below q o from is)
 
-turn-four : (a b c d : Bool) → ((a || b) || (c || d)) ≡ ((a || c) || (b || d))
-turn-four true b c d = refl
-turn-four false true true d = refl
-turn-four false true false d = refl
-turn-four false false c d = refl
+pub from-either : (q path : Path) → (is_below q path || is_in q (path ∷ [])) ≡ is_from q path
+from-either q path = ap (λ b. is_below q path || b) (or-false (is_path q path)) ∙ from-either-at (is_path q path) q path refl
 
 either-any : (q : Path) (paths : List Path) → (list_any (λ other. is_below q other) paths || is_in q paths) ≡ list_any (λ other. is_from q other) paths
 either-any q [] = refl

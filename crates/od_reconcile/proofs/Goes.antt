@@ -13,7 +13,7 @@ use Rattle.od_merge.proofs.SideFacts.{going-at}
 use Rattle.od_merge.proofs.Cores.{any-filter}
 use Rattle.od_merge.proofs.Doing.{none-of-list}
 
-iff : (a b : Bool) → (a ≡ true → b ≡ true) → (b ≡ true → a ≡ true) → a ≡ b
+pub iff : (a b : Bool) → (a ≡ true → b ≡ true) → (b ≡ true → a ≡ true) → a ≡ b
 iff true b there back = sym (there refl)
 iff false true there back = back refl
 iff false false there back = refl

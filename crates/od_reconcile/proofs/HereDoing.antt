@@ -1,9 +1,8 @@
 -- Doing a plan's list in the folder is doing the definition's steps.
-use Rattle.std.proofs.Common.{◌≡◌, ◌⊎◌, inl, inr, ℕ, Bool, true, false, not, ◌&&◌, ◌||◌, cond, is_none, is_some, nat_lt, length, List, [], ◌∷◌, ◌++◌, map, filter, find, append-nil, Option, Some, None, refl, ap, sym, subst, ◌∙◌}
-use Rattle.std.proofs.lemmas.Bool.{true≢false, false≢true, and_parts, and_from, and_left, and_right, or_parts, or_from, or_left, or_right, not-true, false_from_ne_true, cond-true, cond-false}
+use Rattle.std.proofs.Common.{◌≡◌, ◌⊎◌, inl, inr, ℕ, Bool, true, false, not, ◌&&◌, ◌||◌, cond, List, [], ◌∷◌, ◌++◌, map, filter, append-nil, Option, Some, None, refl, ap, sym, subst, ◌∙◌}
+use Rattle.std.proofs.lemmas.Bool.{true≢false, false≢true, and_parts, not-true, cond-true, cond-false}
 use Rattle.std.proofs.lemmas.List.Elements.{filter_map-append}
-use Rattle.std.specs.Cmp.Lexicographic.{same_text}
-use Rattle.std.specs.List.{cons_option, filter_map, list_any}
+use Rattle.std.specs.List.{filter_map}
 use Rattle.std.specs.Option.{option_map}
 use Rattle.gd_item.specs.declared.digest.Digest.{Digest}
 use Rattle.gd_item.specs.declared.id.ItemId.{ItemId}
@@ -12,41 +11,37 @@ use Rattle.gd_item.specs.declared.item.Kind.{Kind}
 use Rattle.gd_item.specs.declared.item.Kind.TheVariants as kind
 use Rattle.od_merge.specs.declared.content.Content.{Content}
 use Rattle.od_merge.specs.declared.content.Content.TheVariants.{Folder, File}
-use Rattle.od_merge.specs.Sides.{Sides, Tree, at, digest_of, is_file, is_folder, is_path, same}
+use Rattle.od_merge.specs.Sides.{Sides, Tree, at, digest_of, is_file, is_path, same}
 use Rattle.od_merge.specs.Merging.{all_paths, both_paths, is_going, is_going_node, target}
 use Rattle.od_merge.specs.Pairs.{local_pairs}
 use Rattle.od_merge.specs.Steps.{AreRenamed, deepest_first, done, is_fetched, needs_folder, steps_at, steps_here}
 use Rattle.od_merge.proofs.Agreements.{gone-here-as-base}
 use Rattle.od_merge.proofs.Cases.{same-nodes}
-use Rattle.od_merge.proofs.Doing.{in-all}
-use Rattle.od_merge.proofs.Lists.{Path, deepest-in, filter-in, in-joined, in-order, is_in}
+use Rattle.od_merge.proofs.Lists.{Path, deepest-in, filter-in, in-joined, is_in}
 use Rattle.od_merge.proofs.Order.{Apart, apart-filter, apart-sorted, rises}
 use Rattle.od_merge.proofs.Phases.{chosen, done-then}
-use Rattle.od_merge.proofs.Proper.{In}
-use Rattle.od_reconcile.specs.Doing.{Standing, Step, come_here, done_down, gone_here, known_file, made_here, steps_down}
+use Rattle.od_merge.proofs.Proper.{In, same-pair}
+use Rattle.od_reconcile.specs.Doing.{Step, come_here, gone_here, known_file, made_here, steps_down}
 use Rattle.od_reconcile.specs.Entries.{kind_content, remote_tree}
 use Rattle.od_reconcile.specs.Moving.{fits_here, is_moved_from, is_source_here, is_target_here, pair_to}
 use Rattle.od_reconcile.specs.Plans.{down_list, fetch_by, fetch_here, fetch_of, fetch_or_move, folder_here, item_at, move_of, removal_here, removal_of}
 use Rattle.od_reconcile.specs.declared.types.Down.{Down}
 use Rattle.od_reconcile.specs.declared.types.Down.TheVariants as down
 use Rattle.od_reconcile.proofs.Doings.{came-from, chosen-list, done-each, if_is, in-picked, none-map, picked, same-map, steps-list, then_by, three-kinds}
-use Rattle.od_reconcile.proofs.PairFacts.{IsPair, Pairs, each-pair, found-to, froms, froms-apart, in-froms, its-pair, some-from, tos, tos-apart}
+use Rattle.od_reconcile.proofs.PairFacts.{Pairs, each-pair, found-to, froms, froms-apart, in-froms, its-pair, some-from, tos, tos-apart}
 
 -- ---- what is the same as a file is a file of a known digest
 pub record IsKnown (there : Option Content) : Type 0 where
   pub digest : Digest
   pub is : there ≡ known_file digest
 
-known-by : (t r : Option Content) → is_file t ≡ true → same t r ≡ true → IsKnown t
-known-by None r file is = absurd (false≢true file)
-known-by (Some Folder) r file is = absurd (false≢true file)
-known-by (Some (File (Some d))) r file is = record { digest = d; is = refl }
-known-by (Some (File None)) None file is = absurd (false≢true is)
-known-by (Some (File None)) (Some Folder) file is = absurd (false≢true is)
-known-by (Some (File None)) (Some (File e)) file is = absurd (false≢true is)
-
 pub known : (t r : Option Content) → is_file t ≡ true → same t r ≡ true → IsKnown t
-known t r file is = known-by t r file is
+known None r file is = absurd (false≢true file)
+known (Some Folder) r file is = absurd (false≢true file)
+known (Some (File (Some d))) r file is = record { digest = d; is = refl }
+known (Some (File None)) None file is = absurd (false≢true is)
+known (Some (File None)) (Some Folder) file is = absurd (false≢true is)
+known (Some (File None)) (Some (File e)) file is = absurd (false≢true is)
 
 -- ---- what the drive has at a path is its item there
 item-at : (t : Bool) (path : Path) (entry : Path × Item) (items : List (Path × Item)) → is_path path entry.0 ≡ t
@@ -90,16 +85,13 @@ move-by from to there is = record {
 }
 
 -- ---- small facts
-unknown : (b : Option Content) → same (Some (File None)) b ≡ true → ⊥
+pub unknown : (b : Option Content) → same (Some (File None)) b ≡ true → ⊥
 unknown None is = false≢true is
 unknown (Some Folder) is = false≢true is
 unknown (Some (File d)) is = false≢true is
 
 one-path : (a b : Path) → Some a ≡ Some b → a ≡ b
 one-path a b is = cc is
-
-one-pair : (a b : Path × Path) → Some a ≡ Some b → a ≡ b
-one-pair a b is = cc is
 
 or-moved : (going moved has : Bool) → (moved ≡ true → (going ≡ true) × (has ≡ true)) → ((going && not moved && has) || moved) ≡ (going && has)
 or-moved true true has is = sym (is refl).1
@@ -298,7 +290,7 @@ module _ (m : Sides) (is : AreRenamed m) (items : List (Path × Item)) (remote_i
   moved-on pair step has (inl fetch) = absurd (cc (sym (its-pair pairs pair pairs-apart has) ∙ fetch.unpaired))
   moved-on pair step has (inr move) =
       let one : Some (move.from, pair.1) ≡ Some pair = sym (its-pair pairs (move.from, pair.1) pairs-apart move.made) ∙ its-pair pairs pair pairs-apart has in
-      ap (λ (s : Option Down). then_by gone_here s) move.move.is ∙ ap (λ (p : Path × Path). Some p.0) (one-pair (move.from, pair.1) pair one)
+      ap (λ (s : Option Down). then_by gone_here s) move.move.is ∙ ap (λ (p : Path × Path). Some p.0) (same-pair (move.from, pair.1) pair one)
 
   moved-at : (t u : Bool) (q : Path) → is_in q (filter_map gone_by_move all) ≡ t → is_moved_from pairs q ≡ u → t ≡ u
   moved-at true true q listed moved = refl

@@ -1,23 +1,21 @@
 -- Each step of a plan can be done at its turn.
-use Rattle.std.proofs.Common.{◌≡◌, ◌⊎◌, inl, inr, ℕ, ◌≤◌, Bool, true, false, not, ◌&&◌, ◌||◌, cond, is_none, is_some, nat_lt, length, arith, List, [], ◌∷◌, ◌++◌, map, filter, Option, Some, None, refl, ap, sym, subst, ◌∙◌}
-use Rattle.std.proofs.lemmas.Bool.{true≢false, false≢true, and_parts, and_from, and_left, and_right, or_parts, or_from, or_left, or_right, not-true, not_from_false, false_from_ne_true, true_from_ne_false, ltb-true, cond-true, cond-false}
-use Rattle.std.specs.List.{filter_map}
+use Rattle.std.proofs.Common.{◌≡◌, ◌⊎◌, inl, inr, Bool, true, false, ◌||◌, cond, is_some, nat_lt, length, arith, List, [], ◌∷◌, ◌++◌, map, Option, Some, None, refl, ap, sym, subst, ◌∙◌}
+use Rattle.std.proofs.lemmas.Bool.{true≢false, false≢true, and_parts, or_from, false_from_ne_true, ltb-true, cond-true, cond-false}
 use Rattle.std.specs.Ordering.{ordering_reverse}
 use Rattle.std.specs.declared.cmp.Ordering.{Ordering}
 use Rattle.std.specs.declared.cmp.Ordering.TheVariants.{Less, Equal, Greater}
 use Rattle.gd_names.proofs.Ordered.{paths-total}
 use Rattle.std.specs.List.Sorted.{IsStrictlySortedBy}
 use Rattle.gd_names.specs.Ordered.{path_cmp}
-use Rattle.gd_item.specs.declared.digest.Digest.{Digest}
-use Rattle.gd_item.specs.declared.item.Item.{Item}
 use Rattle.od_merge.specs.declared.content.Content.{Content}
 use Rattle.od_merge.specs.declared.content.Content.TheVariants.{Folder, File}
 use Rattle.od_merge.specs.Sides.{is_below, is_folder, is_from, is_path}
-use Rattle.od_merge.specs.Steps.{done, steps_at}
-use Rattle.od_merge.proofs.Lists.{Path, filter-in, is_in, path-self, same-path}
+use Rattle.od_merge.specs.Steps.{done}
+use Rattle.od_merge.proofs.Lists.{Path, is_in, same-path}
 use Rattle.od_merge.proofs.Order.{Above, Apart, Rises, below-later}
 use Rattle.od_merge.proofs.Turns.{Falls, head-in, tail-in}
-use Rattle.od_reconcile.specs.Doing.{CanDo, CanStep, HasFolders, Standing, Step, after}
+use Rattle.od_reconcile.specs.Doing.{CanDo, CanStep, Standing, Step, after}
+use Rattle.od_merge.proofs.SideFacts.{either}
 
 -- one list after another
 pub joined-can : (a b : List Step) (there : Standing) → CanDo a there → CanDo b (λ path. done a path (there path)) → CanDo (a ++ b) there
@@ -106,10 +104,6 @@ above-not-in top path (first ∷ paths) below above =
     (false_from_ne_true (is_path top first) (λ same. not-later top path below (subst (λ (p : Path). path_cmp path p ≡ Less) (sym (same-path top first same)) above.0)))
     (above-not-in top path paths below above.1)
 
-first-of : (a b : Bool) → (a || b) ≡ true → b ≡ false → a ≡ true
-first-of true b is none = refl
-first-of false b is none = absurd (true≢false (sym is ∙ none))
-
 made-top : (t : Bool) (there : Standing) (path : Path) (top : Path) (paths : List Path) → is_path top path ≡ t → (is_folder (there top) || (t || is_in top paths)) ≡ true
     → (is_folder (after there (path, Some Folder) top) || is_in top paths) ≡ true
 made-top true there path top paths same is = ap (λ (x : Option Content). is_folder x || is_in top paths) (own-after there path (Some Folder) top same)
@@ -123,7 +117,7 @@ can-make (path ∷ paths) there rises apart may =
       (
         here.free,
         λ top long below.
-            first-of (is_folder (there top)) (is_in top (path ∷ paths)) (here.folders top long below)
+            either (is_folder (there top)) (is_in top (path ∷ paths)) (here.folders top long below)
             (or_from (is_path top path) (is_in top paths) (not-above-itself top path below) (above-not-in top path paths below rises.0)),
       ),
       can-make paths (after there (path, Some Folder)) rises.1 apart.1

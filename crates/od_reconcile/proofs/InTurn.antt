@@ -1,29 +1,28 @@
 -- Each step of a plan's two lists can be done at its turn.
 use Rattle.std.proofs.Common.{◌≡◌, ◌⊎◌, inl, inr, Bool, true, false, not, ◌&&◌, ◌||◌, cond, is_none, is_some, nat_lt, length, List, [], ◌∷◌, ◌++◌, map, filter, append-nil, Option, Some, None, refl, ap, sym, subst, ◌∙◌}
-use Rattle.std.proofs.lemmas.Bool.{true≢false, false≢true, and_parts, and_from, and_left, and_right, or_from, or_left, or_right, not-true, not_from_false, not_from_true, false_from_ne_true, true_from_ne_false, cond-true, cond-false}
+use Rattle.std.proofs.lemmas.Bool.{true≢false, false≢true, and_parts, and_from, and_left, and_right, or_from, or_left, or_right, not-true, not_from_false, not_from_true, false_from_ne_true, cond-true, cond-false}
 use Rattle.std.proofs.lemmas.List.Kept.{IsStrictlySortedBy-filter}
 use Rattle.std.specs.List.{cons_option, filter_map}
 use Rattle.std.specs.Option.{option_map}
 use Rattle.gd_names.specs.Ordered.{path_cmp}
-use Rattle.gd_item.specs.declared.digest.Digest.{Digest}
 use Rattle.gd_item.specs.declared.item.Item.{Item}
 use Rattle.od_merge.specs.declared.content.Content.{Content}
 use Rattle.od_merge.specs.declared.content.Content.TheVariants.{Folder, File}
 use Rattle.od_merge.specs.declared.why.Why.{Why}
-use Rattle.od_merge.specs.Sides.{Sides, Tree, at, is_below, is_file, is_folder, is_kept, is_kept_node, is_other_kind, is_path, paths_of, same}
-use Rattle.od_merge.specs.Merging.{Limits, all_paths, both_paths, is_going, is_left, target, why_held}
-use Rattle.od_merge.specs.Pairs.{drive_pairs, folder_of, is_sent_now, local_pairs, may_move}
-use Rattle.od_merge.specs.Steps.{AreRenamed, IsClear, deepest_first, done, is_fetched, is_sent, needs_folder, steps_at}
-use Rattle.od_merge.proofs.Agreements.{gone-there-none, not-left-going, target-clear, there-file-by}
+use Rattle.od_merge.specs.Sides.{Sides, at, is_below, is_file, is_folder, is_other_kind, paths_of, same}
+use Rattle.od_merge.specs.Merging.{Limits, all_paths, both_paths, is_going, target, why_held}
+use Rattle.od_merge.specs.Pairs.{drive_pairs, folder_of, is_sent_now, local_pairs}
+use Rattle.od_merge.specs.Steps.{AreRenamed, IsClear, deepest_first, done, is_fetched, is_sent, needs_folder}
+use Rattle.od_merge.proofs.Agreements.{gone-there-none, target-clear, there-file-by}
 use Rattle.od_merge.proofs.Doing.{in-all, there-folder-goes}
 use Rattle.od_merge.proofs.Lists.{Path, at-in, deepest-in, filter-in, in-joined, in-order, is_in}
-use Rattle.od_merge.proofs.Order.{Apart, Rises, apart-filter, apart-sorted, rises}
+use Rattle.od_merge.proofs.Order.{Apart, Rises, apart-filter, rises}
 use Rattle.od_merge.proofs.Proper.{In}
-use Rattle.od_merge.proofs.SideFacts.{file-goes, goes, here-file-kept, here-folder-goes, is-folder}
-use Rattle.od_merge.proofs.Turns.{Falls, falls-apart, falls-deepest, falls-filter, folder-goes, going-below, head-in, tail-in, target-above, why-above}
+use Rattle.od_merge.proofs.SideFacts.{file-goes, goes, here-file-kept, here-folder-goes}
+use Rattle.od_merge.proofs.Turns.{falls-apart, falls-deepest, falls-filter, folder-goes, going-below, head-in, tail-in, target-above, why-above}
 use Rattle.od_reconcile.specs.Doing.{CanDo, Standing, Step, done_down, gone_here, made_here, come_here, steps_down, steps_up}
 use Rattle.od_reconcile.specs.Entries.{remote_tree}
-use Rattle.od_reconcile.specs.Moving.{is_moved_from, is_moved_to, pair_to}
+use Rattle.od_reconcile.specs.Moving.{is_moved_from, is_moved_to}
 use Rattle.od_reconcile.specs.Plans.{down_list, fetch_here, up_list}
 use Rattle.od_reconcile.specs.Promises.{IsInOrder, pair_here}
 use Rattle.od_reconcile.specs.declared.types.Down.{Down}
@@ -33,9 +32,10 @@ use Rattle.od_reconcile.proofs.Careful.{fetch-pairs, no-why, some-of}
 use Rattle.od_reconcile.proofs.Doings.{done-each, same-map, then_by}
 use Rattle.od_reconcile.proofs.HereDoing.{Fetches, Moves, all-apart, come-list, comes, gone-list, gone_by_move, in-gone, is_removed, local-froms-apart, made-list, no-fetch}
 use Rattle.od_reconcile.proofs.InOrder.{InSteps, MayGo, MayMake, MayPut, can-go, can-make, can-put, joined-can, takes}
-use Rattle.od_reconcile.proofs.Merged.{long-in}
+use Rattle.od_reconcile.proofs.Merged.{long-in, some-kept}
 use Rattle.od_reconcile.proofs.PairFacts.{Pairs, froms, from-in, in-froms, some-from}
-use Rattle.od_reconcile.proofs.ThereDoing.{drive-pair, going-some, is_made_there, is_removed_there, is_sent_alone, patch_steps, drive-froms-apart, sent-stays, some-file, file-not-folder, up-steps}
+use Rattle.od_reconcile.proofs.ThereDoing.{drive-pair, going-some, is_made_there, is_removed_there, is_sent_alone, patch_steps, drive-froms-apart, sent-stays, file-not-folder, up-steps}
+use Rattle.od_merge.proofs.Digests.{some-file}
 
 -- ---- lists
 apart-join : (a b : List Path) → Apart a → Apart b → ((q : Path) → is_in q a ≡ true → is_in q b ≡ true → ⊥) → Apart (a ++ b)
@@ -78,10 +78,6 @@ none-gone false x none = none
 no-folder-gone : (b : Bool) (x : Option Content) → is_folder x ≡ false → is_folder (cond b None x) ≡ false
 no-folder-gone true x none = refl
 no-folder-gone false x none = none
-
-some-kept : (passes : Path → Bool → Bool) (tree : Tree) (q : Path) (x : Option Content) → is_kept_node passes tree q x ≡ true → is_some x ≡ true
-some-kept passes tree q None kept = kept
-some-kept passes tree q (Some x) kept = refl
 
 same-folders : (x t : Option Content) → is_folder x ≡ true → t ≡ Some Folder → (is_none t || is_other_kind x t) ≡ true → ⊥
 same-folders None t folder is other = false≢true folder

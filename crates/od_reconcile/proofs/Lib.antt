@@ -4,7 +4,13 @@ pub mod Indexes
 pub mod Goes
 pub mod Wanting
 pub mod CopyNames
+pub mod FolderNames
+pub mod Placing
 pub mod Listed
+pub mod Spellings
+pub mod Queueing
+pub mod Serving
+pub mod Ending
 pub mod Beside
 pub mod PairFacts
 pub mod Doings

@@ -6,15 +6,14 @@ use Rattle.std.specs.Ordering.{is_eq}
 use Rattle.std.proofs.lemmas.Bool.{or_left, or_right}
 use Rattle.gd_item.specs.declared.item.Item.{Item}
 use Rattle.gd_names.specs.Ordered.{path_cmp}
-use Rattle.od_merge.specs.Merging.{Limits, all_paths, is_going, moved, renamed, renamed_tree, renames, target}
-use Rattle.od_merge.proofs.Cores.{any-filter}
+use Rattle.od_merge.specs.Merging.{Limits, all_paths, is_going, moved, renamed, renamed_tree, renames}
 use Rattle.od_merge.specs.Sides.{Sides, Tree, at, digest_of, is_path, paths_of, sides_of, same}
 use Rattle.od_merge.specs.Steps.{by_depth, deepest_first, is_fetched}
 use Rattle.od_merge.proofs.Lists.{Path, at-in, in-joined, is_in}
 use Rattle.od_reconcile.specs.Looks.{IsSide}
 use Rattle.od_reconcile.specs.Plans.{IsPlanOf, delete_of, down_list, fetch_here, fetch_of, fetch_or_move, folder_here, folder_there, item_at, over_of, patch_of, patch_there, removal_here, removal_there, send_there, up_list}
 use Rattle.od_reconcile.specs.Moving.{is_moved_from, is_moved_to, pair_to}
-use Rattle.od_merge.specs.Pairs.{and_pair, comes_there, folder_of, may_move, drive_pairs, is_sent_now, local_pairs, pairs_from, source_for}
+use Rattle.od_merge.specs.Pairs.{and_pair, drive_pairs, is_sent_now, local_pairs, pairs_from, source_for}
 use Rattle.od_reconcile.specs.Copying.{copy_path, renamed_entries}
 use Rattle.od_reconcile.specs.Entries.{local_tree, node_content}
 use Rattle.od_reconcile.specs.Holding.{limits_of}
@@ -141,24 +140,3 @@ pub pairs-step : (fits : Path → Path → Bool) (sources : List Path) (pairs ne
 pairs-step fits sources pairs new from to left rest goal left_is from_is new_is before =
     ap (λ (ps : List (Path × Path)). pairs_from fits sources ps rest) (new_is ∙ ap (λ (f : Option Path). and_pair f to pairs) from_is)
     ∙ (sym (ap (λ (ps : List Path). pairs_from fits sources pairs ps) left_is) ∙ before)
-
-pub found-source : (fits : Path → Path → Bool) (left rest : List Path) (pairs : List (Path × Path)) (to from : Path) → left ≡ from ∷ rest
-    → (fits from to && not (is_moved_from pairs from)) ≡ true → source_for fits left pairs to ≡ Some from
-found-source fits left rest pairs to from left_is serves = ap (λ (ps : List Path). source_for fits ps pairs to) left_is ∙ rw serves refl
-
-pub passed-source : (fits : Path → Path → Bool) (left rest : List Path) (pairs : List (Path × Path)) (to from : Path) → left ≡ from ∷ rest
-    → (fits from to && not (is_moved_from pairs from)) ≡ false → source_for fits left pairs to ≡ source_for fits rest pairs to
-passed-source fits left rest pairs to from left_is fails = ap (λ (ps : List Path). source_for fits ps pairs to) left_is ∙ rw fails refl
-
-pub may-is : (l : Limits) (s : Sides) (from to folder : Path) (coming : List Path) (alike free : Bool) → alike ≡ same (s.base from) (target s to) → alike ≡ true
-    → folder ≡ folder_of from → coming ≡ filter (comes_there l s) (all_paths s)
-    → free ≡ (not (is_going s s.remote folder) && not (list_any (λ other. not (is_path other to) && l.same_caseless other from) coming)) → free ≡ may_move l s from to
-may-is l s from to folder coming alike free alike_is is_true folder_is coming_is free_is =
-    let wants = λ (other : Path). not (is_path other to) && l.same_caseless other from in
-    let going = is_going s s.remote (folder_of from) in
-    let wanted = list_any (λ other. wants other && comes_there l s other) (all_paths s) in
-    free_is
-    ∙ (ap (λ (f : Path). not (is_going s s.remote f) && not (list_any wants coming)) folder_is
-    ∙ (ap (λ (ps : List Path). not going && not (list_any wants ps)) coming_is
-    ∙ (ap (λ (b : Bool). not going && not b) (any-filter wants (comes_there l s) (all_paths s))
-    ∙ ap (λ (b : Bool). (b && not going) && not wanted) (sym (sym alike_is ∙ is_true)))))

@@ -11,7 +11,8 @@ use Rattle.std.specs.declared.cmp.Ordering.TheVariants.{Less, Equal, Greater}
 use Rattle.od_merge.specs.declared.content.Content.{Content}
 use Rattle.od_merge.specs.Sides.{at, is_path}
 use Rattle.gd_names.specs.Ordered.{path_cmp}
-use Rattle.od_merge.proofs.Lists.{Path, is_in, exact-paths, path-self, same-path}
+use Rattle.od_merge.proofs.Lists.{Path, is_in, path-self, same-path}
+use Rattle.gd_names.proofs.Ordered.{exact-paths}
 
 apart : (o : Ordering) (a b : Path) → path_cmp a b ≡ o → is_eq o ≡ false → is_path a b ≡ false
 apart o a b is not_equal = false_from_ne_true (is_path a b)

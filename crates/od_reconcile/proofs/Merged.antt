@@ -1,14 +1,14 @@
 -- Doing a plan makes both sides the target where the merge decides, and leaves all else.
-use Rattle.std.proofs.Common.{◌≡◌, Bool, true, false, not, ◌&&◌, ◌||◌, cond, is_none, is_some, nat_lt, length, arith, List, [], ◌∷◌, ◌++◌, Option, Some, None, refl, ap, sym, subst, ◌∙◌}
-use Rattle.std.proofs.lemmas.Bool.{true≢false, false≢true, and_parts, and_from, and_left, or_from, or_left, or_right, not-true, not_from_false, cond-false, lt-ltb, true_from_ne_false}
+use Rattle.std.proofs.Common.{◌≡◌, Bool, true, false, not, ◌&&◌, ◌||◌, cond, is_none, is_some, nat_lt, length, arith, List, [], ◌∷◌, Option, Some, None, refl, ap, sym, ◌∙◌}
+use Rattle.std.proofs.lemmas.Bool.{true≢false, false≢true, and_parts, and_from, or_from, or_left, or_right, not-true, not_from_false, cond-false, lt-ltb}
 use Rattle.gd_item.specs.declared.item.Item.{Item}
 use Rattle.od_merge.specs.declared.content.Content.{Content}
-use Rattle.od_merge.specs.declared.content.Content.TheVariants.{Folder, File}
+use Rattle.od_merge.specs.declared.content.Content.TheVariants.{Folder}
 use Rattle.od_merge.specs.declared.why.Why.{Why}
 use Rattle.od_merge.specs.Sides.{Sides, Tree, at, is_file, is_folder, is_kept, is_kept_node, is_kept_there, paths_of, same}
 use Rattle.od_merge.specs.Merging.{Limits, all_paths, both_paths, is_going, is_left, target, why_held}
 use Rattle.od_merge.specs.Pairs.{is_sent_now}
-use Rattle.od_merge.specs.Steps.{AreRenamed, IsClear, is_fetched, is_sent, needs_folder, stands}
+use Rattle.od_merge.specs.Steps.{AreRenamed, IsClear, is_fetched, is_sent, needs_folder}
 use Rattle.od_merge.proofs.Agreements.{clear-at, going-clear-here, going-clear-there, target-clear}
 use Rattle.od_merge.proofs.Doing.{done-here, done-there}
 use Rattle.od_merge.proofs.Lists.{Path, at-in, in-joined, in-order, is_in}
@@ -21,14 +21,15 @@ use Rattle.od_reconcile.specs.declared.types.Plan.{Plan}
 use Rattle.od_reconcile.specs.declared.types.Up.{Up}
 use Rattle.od_reconcile.proofs.Careful.{free-going, some-of}
 use Rattle.od_reconcile.proofs.HereDoing.{down-at, down-is}
-use Rattle.od_reconcile.proofs.ThereDoing.{is_made_there, long-file, sent-stays, some-file, up-at, up-is}
+use Rattle.od_reconcile.proofs.ThereDoing.{is_made_there, long-file, sent-stays, up-at, up-is}
+use Rattle.od_merge.proofs.Digests.{some-file}
 
 never : (b c : Bool) → (b ≡ true → c ≡ true → ⊥) → (b && c) ≡ false
 never true true none = absurd (none refl refl)
 never true false none = refl
 never false c none = refl
 
-some-kept : (passes : Path → Bool → Bool) (tree : Tree) (q : Path) (x : Option Content) → is_kept_node passes tree q x ≡ true → is_some x ≡ true
+pub some-kept : (passes : Path → Bool → Bool) (tree : Tree) (q : Path) (x : Option Content) → is_kept_node passes tree q x ≡ true → is_some x ≡ true
 some-kept passes tree q None kept = kept
 some-kept passes tree q (Some x) kept = refl
 

@@ -1,12 +1,12 @@
 -- What is known of the pairs of a walk: where each is from and to, and that no path is in two of them.
-use Rattle.std.proofs.Common.{◌≡◌, ◌⊎◌, inl, inr, Bool, true, false, not, ◌&&◌, ◌||◌, cond, List, [], ◌∷◌, ◌++◌, map, find, append_assoc, Option, Some, None, refl, ap, sym, subst, ◌∙◌}
+use Rattle.std.proofs.Common.{◌≡◌, ◌⊎◌, inl, inr, Bool, true, false, not, ◌&&◌, ◌||◌, cond, List, [], ◌∷◌, ◌++◌, map, find, Option, Some, None, refl, ap, sym, subst, ◌∙◌}
 use Rattle.std.proofs.lemmas.Bool.{true≢false, false≢true, and_parts, or_parts, or_from, or_left, or_right, not-true, false_from_ne_true}
 use Rattle.std.specs.List.{list_any}
 use Rattle.od_merge.specs.Sides.{is_path}
 use Rattle.od_merge.specs.Pairs.{and_pair, pairs_from, source_for}
 use Rattle.od_merge.proofs.Lists.{Path, in-joined, is_in, path-self, same-path}
 use Rattle.od_merge.proofs.Order.{Apart}
-use Rattle.od_merge.proofs.Proper.{In}
+use Rattle.od_merge.proofs.Proper.{In, same-pair, turn}
 use Rattle.od_reconcile.specs.Moving.{is_moved_from, is_moved_to, pair_to}
 
 abbrev pub Pairs : Type 0
@@ -33,9 +33,6 @@ found-path : (test : Path → Bool) (paths : List Path) (from : Path) → find t
 found-path test [] from is = absurd (cc is)
 found-path test (first ∷ paths) from is = source-at (test first) test first from paths refl is (found-path test paths from)
 
-one-pair : (a b : Path × Path) → Some a ≡ Some b → a ≡ b
-one-pair a b is = cc is
-
 -- ---- one after the other
 in-on : {first pair last : Path × Path} (pairs : Pairs) → In pair pairs ⊎ (pair ≡ last) → In pair (first ∷ pairs) ⊎ (pair ≡ last)
 in-on pairs (inl more) = inl (inr more)
@@ -59,9 +56,6 @@ apart-middle (first ∷ a) path b apart =
     let none = or_parts (is_in first a) (is_in first (path ∷ b)) (sym (in-joined first a (path ∷ b)) ∙ apart.0) in
     (in-joined first a b ∙ or_from (is_in first a) (is_in first b) none.0 (or_parts (is_path first path) (is_in first b) none.1).1, apart-middle a path b apart.1)
 
-turn : (a b : Path) → is_path a b ≡ true → is_path b a ≡ true
-turn a b is = subst (λ (p : Path). is_path p a ≡ true) (same-path a b is) (path-self a)
-
 apart-end : (a : List Path) (path : Path) → Apart a → is_in path a ≡ false → Apart (a ++ path ∷ [])
 apart-end [] path apart none = (refl, tt)
 apart-end (first ∷ a) path apart none =
@@ -71,7 +65,7 @@ apart-end (first ∷ a) path apart none =
       apart-end a path apart.1 parts.1,
     )
 
-apart-first : (a b : List Path) → Apart (a ++ b) → Apart a
+pub apart-first : (a b : List Path) → Apart (a ++ b) → Apart a
 apart-first [] b apart = tt
 apart-first (first ∷ a) b apart =
     ((or_parts (is_in first a) (is_in first b) (sym (in-joined first a b) ∙ apart.0)).0, apart-first a b apart.1)
@@ -206,7 +200,7 @@ some-from (first ∷ pairs) path has = from-at (is_path path first.0) path first
 found-at : (t : Bool) (path : Path) (first pair : Path × Path) (pairs : Pairs) → is_path path first.1 ≡ t → cond t (Some first) (pair_to pairs path) ≡ Some pair
     → (pair_to pairs path ≡ Some pair → In pair pairs × (path ≡ pair.1)) → In pair (first ∷ pairs) × (path ≡ pair.1)
 found-at true path first pair pairs is found rest =
-    let one = one-pair first pair found in
+    let one = same-pair first pair found in
     (inl (sym one), same-path path first.1 is ∙ ap (λ (p : Path × Path). p.1) one)
 found-at false path first pair pairs is found rest = let more = rest found in (inr more.0, more.1)
 

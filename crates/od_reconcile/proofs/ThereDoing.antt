@@ -1,17 +1,15 @@
 -- Doing a plan's list on the drive is doing the definition's steps.
-use Rattle.std.proofs.Common.{◌≡◌, ◌⊎◌, inl, inr, ℕ, Bool, true, false, not, ◌&&◌, ◌||◌, cond, is_none, is_some, nat_lt, length, arith, List, [], ◌∷◌, ◌++◌, map, filter, append_assoc, Option, Some, None, refl, ap, sym, subst, ◌∙◌}
-use Rattle.std.proofs.lemmas.Bool.{true≢false, false≢true, and_parts, and_from, and_left, and_right, or_from, not-true, false_from_ne_true, cond-true, cond-false, lt-ltb}
+use Rattle.std.proofs.Common.{◌≡◌, ◌⊎◌, inl, inr, Bool, true, false, not, ◌&&◌, ◌||◌, cond, is_none, is_some, nat_lt, length, arith, List, [], ◌∷◌, ◌++◌, map, filter, append_assoc, Option, Some, None, refl, ap, sym, subst, ◌∙◌}
+use Rattle.std.proofs.lemmas.Bool.{true≢false, false≢true, and_parts, and_left, and_right, or_from, not-true, false_from_ne_true, cond-true, cond-false, lt-ltb}
 use Rattle.std.specs.List.{cons_option, filter_map, list_any}
 use Rattle.std.specs.Option.{option_map}
-use Rattle.gd_item.specs.declared.digest.Digest.{Digest}
 use Rattle.gd_item.specs.declared.id.ItemId.{ItemId}
 use Rattle.gd_item.specs.declared.item.Item.{Item}
 use Rattle.gd_item.specs.declared.item.Tag.{Tag}
 use Rattle.od_merge.specs.declared.content.Content.{Content}
 use Rattle.od_merge.specs.declared.content.Content.TheVariants.{Folder, File}
-use Rattle.od_merge.specs.declared.why.Why.{Why}
 use Rattle.od_merge.specs.Sides.{Sides, Tree, at, is_file, is_folder, is_kept, is_kept_node, is_kept_there, is_path, same}
-use Rattle.od_merge.specs.Merging.{Limits, all_paths, both_paths, is_going, is_left, merged, seen, target, wanted, why_held}
+use Rattle.od_merge.specs.Merging.{Limits, all_paths, is_going, is_left, merged, seen, target, why_held}
 use Rattle.od_merge.specs.Pairs.{comes_there, drive_pairs, folder_of, is_sent_now, may_move}
 use Rattle.od_merge.specs.Steps.{AreRenamed, deepest_first, done, is_fetched, is_sent, needs_folder, steps_at, steps_there}
 use Rattle.od_merge.proofs.Agreements.{gone-other, gone-there-as-base, gone-there-none, target-clear}
@@ -23,15 +21,16 @@ use Rattle.od_merge.proofs.Order.{Apart}
 use Rattle.od_merge.proofs.Phases.{chosen, done-then}
 use Rattle.od_merge.proofs.Proper.{In}
 use Rattle.od_merge.proofs.SideFacts.{goes}
-use Rattle.od_reconcile.specs.Doing.{Standing, Step, done_down, step_up, steps_down, steps_up}
+use Rattle.od_reconcile.specs.Doing.{Standing, Step, done_down, step_up, steps_up}
 use Rattle.od_reconcile.specs.Entries.{kind_content, remote_tree}
 use Rattle.od_reconcile.specs.Moving.{is_moved_from, is_moved_to, is_source_there, is_target_there}
 use Rattle.od_reconcile.specs.Plans.{delete_of, down_list, folder_there, item_at, over_of, patch_of, patch_there, removal_there, send_there, up_list}
 use Rattle.od_reconcile.specs.declared.types.Up.{Up}
 use Rattle.od_reconcile.specs.declared.types.Up.TheVariants as up
 use Rattle.od_reconcile.proofs.Doings.{AllLeave, done-leaves, places, three-kinds}
-use Rattle.od_reconcile.proofs.HereDoing.{at-item, down-at, down-is}
+use Rattle.od_reconcile.proofs.HereDoing.{at-item, down-at}
 use Rattle.od_reconcile.proofs.PairFacts.{Pairs, each-pair, froms, froms-apart, some-from, some-to, to-in}
+use Rattle.od_merge.proofs.Digests.{some-file}
 
 -- ---- steps of a list
 abbrev pub step_or : Standing → Standing → Option Up → List Step
@@ -72,10 +71,6 @@ pub file-not-folder : (x : Option Content) → is_file x ≡ true → is_folder 
 file-not-folder None file = refl
 file-not-folder (Some Folder) file = absurd (false≢true file)
 file-not-folder (Some (File d)) file = refl
-
-pub some-file : (x : Option Content) → is_file x ≡ true → is_some x ≡ true
-some-file None file = absurd (false≢true file)
-some-file (Some x) file = refl
 
 join : (S N G to from has : Bool) (here t folder there : Option Content) → (to ≡ true → (S ≡ true) × (has ≡ true))
     → (from ≡ true → (G ≡ true) × (has ≡ true) × (S ≡ false) × (N ≡ false) × (t ≡ None)) → (S ≡ true → here ≡ t)

@@ -35,7 +35,7 @@ skipped-any f test other a b =
     ∙ (ap (λ x. x || list_any f (filter other (paths_of b))) (any-filter f test (paths_of a) ∙ any-paths (λ p. f p && test p) a)
     ∙ ap (λ x. list_any (λ (entry : Path × Content). f entry.0 && test entry.0) a || x) (any-filter f other (paths_of b) ∙ any-paths (λ p. f p && other p) b))
 
-turn-four : (a b c d : Bool) → ((a || b) || (c || d)) ≡ ((a || c) || (b || d))
+pub turn-four : (a b c d : Bool) → ((a || b) || (c || d)) ≡ ((a || c) || (b || d))
 turn-four true b c d = refl
 turn-four false true true d = refl
 turn-four false true false d = refl

@@ -1,5 +1,5 @@
 -- What doing a plan makes of both sides: maps from paths to what stands there, and the steps that the plan's lists say, in their order.
-use Rattle.std.specs.Prelude.{◌≡◌, ℕ, Bool, true, false, cond, length, nat_lt, is_some, List, [], ◌∷◌, ◌++◌, map, Option, Some, None}
+use Rattle.std.specs.Prelude.{◌≡◌, true, false, cond, length, nat_lt, is_some, List, [], ◌∷◌, ◌++◌, map, Option, Some, None}
 use Rattle.std.specs.List.{filter_map}
 use Rattle.gd_item.specs.declared.digest.Digest.{Digest}
 use Rattle.od_merge.specs.declared.content.Content.{Content}

@@ -3,8 +3,11 @@ pub mod Above
 pub mod Ready
 pub mod Looks
 pub mod Copying
+pub mod Taken
 pub mod Holding
+pub mod Places
 pub mod Plans
 pub mod Moving
+pub mod Queues
 pub mod Doing
 pub mod Promises

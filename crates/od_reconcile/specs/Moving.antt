@@ -1,10 +1,14 @@
 -- Which steps of a plan become moves: the candidates on both sides, and how a pair is read.
-use Rattle.std.specs.Prelude.{Bool, not, ◌&&◌, List, filter, find, Option}
+use Rattle.std.specs.Prelude.{◌≡◌, Bool, not, ◌&&◌, List, filter, find, Option}
 use Rattle.std.specs.List.{list_any}
+use Rattle.std.specs.Option.{option_map}
+use Rattle.od_merge.specs.Core.{is_in}
 use Rattle.od_merge.specs.Merging.{Limits, all_paths, is_going, target}
 use Rattle.od_merge.specs.Pairs.{comes_there, is_sent_now}
 use Rattle.od_merge.specs.Sides.{Path, Sides, at, is_file, is_path, same}
 use Rattle.od_merge.specs.Steps.{is_fetched}
+use Rattle.od_reconcile.specs.Holding.{stands_at}
+use Rattle.od_reconcile.specs.declared.ends.Ends.{Ends}
 
 -- in the folder: files that go, and paths to which a file is fetched where none stands
 abbrev pub fits_here : Sides → Path → Path → Bool
@@ -36,3 +40,12 @@ is_moved_to pairs path = list_any (λ (pair : Path × Path). is_path path pair.1
 
 abbrev pub pair_to : List (Path × Path) → Path → Option (Path × Path)
 pair_to pairs path = find (λ (pair : Path × Path). is_path path pair.1) pairs
+
+-- where the pair comes from that comes to a path
+abbrev pub source_of : List (Path × Path) → Path → Option Path
+source_of pairs path = option_map (λ (pair : Path × Path). pair.0) (pair_to pairs path)
+
+-- both ends of pairs, for quick look-ups
+pub record IsEnds (ends : Ends) : Type 0 where
+  pub froms : (path : Path) → is_in path ends.froms.keys ≡ is_moved_from ends.pairs.now path
+  pub tos : (path : Path) → stands_at ends.tos.entries path ≡ source_of ends.pairs.now path

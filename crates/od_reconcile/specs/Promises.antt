@@ -1,9 +1,7 @@
 -- What a plan's lists keep, for any trees.
-use Rattle.std.specs.Prelude.{◌≡◌, ℕ, Bool, true, false, not, ◌&&◌, is_none, is_some, ◌⊎◌, List, [], ◌∷◌, Option, Some, None, All}
+use Rattle.std.specs.Prelude.{◌≡◌, Bool, true, false, not, ◌&&◌, is_none, is_some, ◌⊎◌, List, [], ◌∷◌, Option, Some, None, All}
 use Rattle.std.specs.List.{filter_map}
-use Rattle.gd_item.specs.declared.digest.Digest.{Digest}
-use Rattle.od_merge.specs.declared.content.Content.{Content}
-use Rattle.od_merge.specs.declared.content.Content.TheVariants.{Folder, File}
+use Rattle.od_merge.specs.declared.content.Content.TheVariants.{Folder}
 use Rattle.od_merge.specs.Merging.{Limits, is_left, why_held}
 use Rattle.od_merge.specs.Pairs.{drive_pairs, local_pairs}
 use Rattle.od_merge.specs.Sides.{Path, Sides, at, is_kept_there, same}

@@ -1,80 +1,25 @@
-ghost use Rattle.std.specs.Prelude.{◌≡◌, ◌≤◌, ℕ, ◌++◌, [], ◌∷◌, List, length, drop, cond, is_none, IfOk, OnOk, MatchOption};
+ghost use Rattle.std.specs.Prelude.{◌≡◌, ℕ, ◌++◌, [], ◌∷◌, List, cond, is_none, IfOk, OnOk};
 ghost use Rattle.std.specs.Option.{option_copied, option_map, option_to_list};
-ghost use Rattle.od_merge.specs.Merging.{and_taken, copied, moved, renames, without_copy};
+ghost use Rattle.od_merge.specs.Merging.{copied, renames, without_copy};
 ghost use Rattle.od_merge.specs.Sides.{paths_of};
-ghost use Rattle.od_reconcile.specs.Copying.{copy_among, copy_beside, copy_path, left_of, moves_of, name_in, names_in, renamed_entries};
+ghost use Rattle.od_reconcile.specs.Copying.{copy_among, copy_beside, copy_path, left_of, moves_of, names_in};
 ghost use Rattle.od_reconcile.specs.Ready.{IsBothReady, sides_found};
+ghost use Rattle.od_reconcile.specs.Taken.{HasNames, names_at, names_or_none};
 
 use crate::both::Both;
 use crate::conflicts::conflicts;
 use crate::entries::is_folder;
-use crate::merge::is_from;
 use crate::side::standing;
-use crate::types::Node;
+use crate::taken::{add_path, add_tree, split_last};
 use gd_names::{List, NoMemory, Path, Text, copy_name};
-use od_merge::Content;
 use std::alloc::Global;
+use std::collections::BTreeMap;
 
 /// The conflicts that get copy names, each beside its new path, and those that get none.
 #[derive(Drop)]
 pub struct Renaming {
     pub renames: Vec<(Path, Path)>,
     pub left: Vec<Path>,
-}
-
-/// The names of the folder of a path, and its last name.
-pub(crate) fn split_last(path: &Path) -> Result<Option<(List<Text>, Text)>, NoMemory>
-    ensures { IfOk result (λ parts. MatchOption parts (path.now ≡ []) (λ p. path.now ≡ p.0 ++ p.1 ∷ [])) }
-{
-    let mut names = path.clone()?.into_names();
-    match names.pop() {
-        Some(last) => Ok(Some((names, last))),
-        None => Ok(None),
-    }
-}
-
-/// The name that a path has in a folder, if it is right in it.
-fn name_in<'a>(folder: &[Text], path: &'a [Text]) -> Option<&'a Text>
-    ensures { option_copied result ≡ name_in folder.now path.now }
-{
-    let mut above = folder;
-    let mut rest = path;
-    while let [top, further @ ..] = above {
-        let [name, after @ ..] = rest else {
-            return None;
-        };
-        if top != name {
-            return None;
-        }
-        above = further;
-        rest = after;
-    }
-    match rest {
-        [name] => Some(name),
-        _ => None,
-    }
-}
-
-fn push_name(names: &mut List<Text>, name: Option<&Text>) -> Result<(), NoMemory>
-    ensures { OnOk result (names.new ≡ names.old ++ option_to_list (option_copied name.entry)) }
-{
-    match name {
-        Some(name) => {
-            names.push(name.clone()?)?;
-            Ok(())
-        }
-        None => Ok(()),
-    }
-}
-
-fn names_in(alloc: Global, folder: &[Text], paths: &[Path]) -> Result<List<Text>, NoMemory>
-    ensures { IfOk result (λ names. names ≡ names_in folder.now paths.now) }
-{
-    let mut names = List::new(alloc);
-    for path in paths {
-        push_name(&mut names, name_in(folder, path.names()))?;
-    }
-    Ok(names)
 }
 
 fn copy_among(
@@ -88,6 +33,25 @@ fn copy_among(
 {
     let copy = copy_name(alloc, name, folder, host, names)?;
     Ok(copy)
+}
+
+/// The same, where a folder that is not there has no names.
+fn copy_in(
+    alloc: Global,
+    name: &Text,
+    folder: bool,
+    host: &Text,
+    names: Option<&List<Text>>,
+) -> Result<Option<Text>, NoMemory>
+    ensures { IfOk result (λ copy. copy ≡ copy_among name.now folder host.now (names_or_none (option_copied names.entry))) }
+{
+    match names {
+        Some(names) => copy_among(alloc, name, folder, host, names),
+        None => {
+            let none = List::new(alloc);
+            copy_among(alloc, name, folder, host, &none)
+        }
+    }
 }
 
 fn joined(mut folder: List<Text>, name: Option<Text>) -> Result<Option<Path>, NoMemory>
@@ -107,35 +71,36 @@ fn copy_beside(
     alloc: Global,
     host: &Text,
     folder: bool,
-    taken: &[Path],
+    taken: &BTreeMap<Path, List<Text>>,
     path: &Path,
 ) -> Result<Option<Path>, NoMemory>
-    ensures { IfOk result (λ found. found ≡ copy_beside host.now folder taken.now path.now) }
+    ensures { IfOk result (λ found. (paths : List (List (List ℕ))) → HasNames paths taken.now.entries → found ≡ copy_beside host.now folder paths path.now) }
 {
     let Some(parts) = split_last(path)? else {
         return Ok(None);
     };
-    let (above, name) = parts;
-    let names = names_in(alloc, above.as_slice(), taken)?;
-    let copy = copy_among(alloc, &name, folder, host, &names)?;
-    let found = joined(above, copy)?;
+    let (names, name) = parts;
+    let above = Path::from_names(names);
+    let copy = copy_in(alloc, &name, folder, host, taken.get(&above))?;
+    let found = joined(above.into_names(), copy)?;
     Ok(found)
 }
 
 fn add_copy(
+    alloc: Global,
     copies: &mut Renaming,
-    taken: &mut Vec<Path>,
+    taken: &mut BTreeMap<Path, List<Text>>,
     path: &Path,
     to: Option<Path>,
 ) -> Result<(), NoMemory>
     ensures renames { OnOk result (copies.new.renames.items ≡ copies.old.renames.items ++ option_to_list (option_map (λ to. (path.now, to)) to)) }
     ensures left { OnOk result (copies.new.left.items ≡ copies.old.left.items ++ cond (is_none to) (path.now ∷ []) []) }
-    ensures taken { OnOk result (taken.new.items ≡ and_taken to taken.old.items) }
+    ensures taken { OnOk result ((q : List (List ℕ)) → names_at taken.new.entries q ≡ names_at taken.old.entries q ++ names_in q (option_to_list to)) }
 {
     match to {
         Some(to) => {
-            copies.renames.push((path.clone()?, to.clone()?))?;
-            taken.push(to)?;
+            add_path(alloc, taken, &to)?;
+            copies.renames.push((path.clone()?, to))?;
             Ok(())
         }
         None => {
@@ -145,25 +110,16 @@ fn add_copy(
     }
 }
 
-fn add_taken(found: &mut Vec<Path>, tree: &[(Path, Content)]) -> Result<(), NoMemory>
-    ensures { OnOk result (found.new.items ≡ found.old.items ++ paths_of tree.now) }
-{
-    for entry in tree {
-        found.push(entry.0.clone()?)?;
-    }
-    Ok(())
-}
-
 fn copy_each(
     alloc: Global,
     host: &Text,
     both: &Both<'_>,
     conflicts: &[Path],
-    taken: &mut Vec<Path>,
+    taken: &mut BTreeMap<Path, List<Text>>,
 ) -> Result<Renaming, NoMemory>
     requires { IsBothReady both.now }
-    ensures renames { IfOk result (λ copies. copies.renames.items ≡ moves_of (copied (copy_path host.now (sides_found both.now).local) taken.old.items conflicts.now)) }
-    ensures left { IfOk result (λ copies. copies.left.items ≡ left_of (copied (copy_path host.now (sides_found both.now).local) taken.old.items conflicts.now)) }
+    ensures renames { IfOk result (λ copies. (paths : List (List (List ℕ))) → HasNames paths taken.old.entries → copies.renames.items ≡ moves_of (copied (copy_path host.now (sides_found both.now).local) paths conflicts.now)) }
+    ensures left { IfOk result (λ copies. (paths : List (List (List ℕ))) → HasNames paths taken.old.entries → copies.left.items ≡ left_of (copied (copy_path host.now (sides_found both.now).local) paths conflicts.now)) }
 {
     let mut copies = Renaming {
         renames: Vec::new(alloc),
@@ -171,10 +127,20 @@ fn copy_each(
     };
     for path in conflicts {
         let folder = is_folder(standing(both.rules, &both.here, path));
-        let to = copy_beside(alloc, host, folder, taken.as_slice(), path)?;
-        add_copy(&mut copies, taken, path, to)?;
+        let to = copy_beside(alloc, host, folder, taken, path)?;
+        add_copy(alloc, &mut copies, taken, path, to)?;
     }
     Ok(copies)
+}
+
+/// The names that both sides have, by their folders.
+fn taken_names(alloc: Global, both: &Both<'_>) -> Result<BTreeMap<Path, List<Text>>, NoMemory>
+    ensures { IfOk result (λ taken. HasNames (paths_of both.now.here.tree.now ++ paths_of both.now.there.tree.now) taken.entries) }
+{
+    let mut taken = BTreeMap::new(alloc);
+    add_tree(alloc, &mut taken, both.here.tree)?;
+    add_tree(alloc, &mut taken, both.there.tree)?;
+    Ok(taken)
 }
 
 /// What becomes of the conflicts, in the order of the folder's entries.
@@ -184,49 +150,7 @@ pub(crate) fn copies(alloc: Global, host: &Text, both: &Both<'_>) -> Result<Rena
     ensures left { IfOk result (λ copies. copies.left.items ≡ without_copy (copy_path host.now (sides_found both.now).local) (sides_found both.now)) }
 {
     let conflicts = conflicts(alloc, both)?;
-    let mut taken = Vec::new(alloc);
-    add_taken(&mut taken, both.here.tree)?;
-    add_taken(&mut taken, both.there.tree)?;
+    let mut taken = taken_names(alloc, both)?;
     let copies = copy_each(alloc, host, both, conflicts.as_slice(), &mut taken)?;
     Ok(copies)
-}
-
-/// A path from one folder on as the same path from another one on.
-fn rebased(from: &Path, to: &Path, path: &Path) -> Result<Path, NoMemory>
-    requires { length from.now ≤ length path.now }
-    ensures { IfOk result (λ new. new ≡ to.now ++ drop (length from.now) path.now) }
-{
-    let mut names = to.clone()?.into_names();
-    let (_, rest) = path.names().split_at(from.names().len());
-    for name in rest {
-        names.push(name.clone()?)?;
-    }
-    Ok(Path::from_names(names))
-}
-
-/// Where a path is after the renames.
-fn moved(renames: &[(Path, Path)], path: &Path) -> Result<Path, NoMemory>
-    ensures { IfOk result (λ new. new ≡ moved renames.now path.now) }
-{
-    for rename in renames {
-        if is_from(&rename.0, path) {
-            return rebased(&rename.0, &rename.1, path);
-        }
-    }
-    Ok(path.clone()?)
-}
-
-/// The folder's entries after the renames.
-pub(crate) fn renamed_entries(
-    alloc: Global,
-    renames: &[(Path, Path)],
-    local: &[(Path, Node)],
-) -> Result<Vec<(Path, Node)>, NoMemory>
-    ensures { IfOk result (λ found. found.items ≡ renamed_entries renames.now local.now) }
-{
-    let mut found = Vec::new(alloc);
-    for entry in local {
-        found.push((moved(renames, &entry.0)?, entry.1))?;
-    }
-    Ok(found)
 }

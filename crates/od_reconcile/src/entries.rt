@@ -1,16 +1,17 @@
 ghost use Rattle.std.specs.Prelude.{◌≡◌, ℕ, List, [], ◌∷◌, IfOk, OnOk};
-ghost use Rattle.od_merge.specs.Sides.{at, same, is_folder, is_file, is_other_kind};
+ghost use Rattle.od_merge.specs.Sides.{at, digest_of, same, is_folder, is_file, is_other_kind};
 ghost use Rattle.od_reconcile.specs.Above.{or_else};
 ghost use Rattle.od_reconcile.specs.Entries.{node_content, kind_content, local_tree, remote_tree};
 
 use crate::types::Node;
-use gd_item::{Item, Kind};
+use gd_item::{Digest, Item, Kind};
 use gd_names::{NoMemory, Path};
 use od_merge::Content;
 use std::alloc::Global;
 use std::collections::BTreeMap;
 
-fn node_content(node: Node) -> Content
+/// What a scan found, without sizes.
+pub fn node_content(node: Node) -> Content
     ensures { result ≡ node_content node }
 {
     match node {
@@ -19,7 +20,8 @@ fn node_content(node: Node) -> Content
     }
 }
 
-fn kind_content(kind: Kind) -> Content
+/// What a pull found. Of a file without a digest none is known.
+pub fn kind_content(kind: Kind) -> Content
     ensures { result ≡ kind_content kind }
 {
     match kind {
@@ -30,10 +32,8 @@ fn kind_content(kind: Kind) -> Content
     }
 }
 
-pub(crate) fn local_tree(
-    alloc: Global,
-    local: &[(Path, Node)],
-) -> Result<Vec<(Path, Content)>, NoMemory>
+/// The folder's side, from what a scan found, in its order.
+pub fn local_tree(alloc: Global, local: &[(Path, Node)]) -> Result<Vec<(Path, Content)>, NoMemory>
     ensures { IfOk result (λ tree. tree.items ≡ local_tree local.now) }
 {
     let mut tree = Vec::new(alloc);
@@ -43,10 +43,8 @@ pub(crate) fn local_tree(
     Ok(tree)
 }
 
-pub(crate) fn remote_tree(
-    alloc: Global,
-    remote: &[(Path, Item)],
-) -> Result<Vec<(Path, Content)>, NoMemory>
+/// The drive's side, from what a pull found, in its order.
+pub fn remote_tree(alloc: Global, remote: &[(Path, Item)]) -> Result<Vec<(Path, Content)>, NoMemory>
     ensures { IfOk result (λ tree. tree.items ≡ remote_tree remote.now) }
 {
     let mut tree = Vec::new(alloc);
@@ -80,6 +78,16 @@ pub(crate) fn is_other_kind(a: Option<Content>, b: Option<Content>) -> bool
     is_folder(a) && is_file(b) || is_file(a) && is_folder(b)
 }
 
+pub(crate) fn digest_of(content: Option<Content>) -> Option<Digest>
+    ensures { result ≡ digest_of content }
+{
+    match content {
+        None => None,
+        Some(Content::Folder) => None,
+        Some(Content::File(digest)) => digest,
+    }
+}
+
 /// Whether the same stands there: an unknown digest is like no other.
 pub(crate) fn is_same(a: Option<Content>, b: Option<Content>) -> bool
     ensures { result ≡ same a b }
@@ -92,8 +100,8 @@ pub(crate) fn is_same(a: Option<Content>, b: Option<Content>) -> bool
     }
 }
 
-/// What stands at a path.
-pub(crate) fn content_at(index: &BTreeMap<Path, Content>, path: &Path) -> Option<Content>
+/// What stands at a path. Takes no memory.
+pub fn content_at(index: &BTreeMap<Path, Content>, path: &Path) -> Option<Content>
     ensures { result ≡ at index.now.entries path.now }
 {
     index.get(path).copied()
@@ -115,10 +123,7 @@ fn put_absent(
 }
 
 /// What a tree has at each path, for quick look-ups. The first entry of a path counts.
-pub(crate) fn index(
-    alloc: Global,
-    tree: &[(Path, Content)],
-) -> Result<BTreeMap<Path, Content>, NoMemory>
+pub fn index(alloc: Global, tree: &[(Path, Content)]) -> Result<BTreeMap<Path, Content>, NoMemory>
     ensures { IfOk result (λ index. (path : List (List ℕ)) → at index.entries path ≡ at tree.now path) }
 {
     let mut found = BTreeMap::new(alloc);

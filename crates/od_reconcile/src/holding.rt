@@ -1,27 +1,26 @@
 ghost use Rattle.std.specs.Prelude.{◌≡◌, ◌&&◌, ◌++◌, not, ℕ, List, [], ◌∷◌, map, filter, is_some, ◌||◌, IfOk, OnOk};
 ghost use Rattle.std.specs.List.{list_any, filter_map};
 ghost use Rattle.std.specs.Option.{option_map, option_to_list};
-ghost use Rattle.std.specs.Ordering.{is_lt};
 ghost use Rattle.gd_names.specs.Causes.{first_cause};
 ghost use Rattle.gd_names.specs.Names.{name_fault};
-ghost use Rattle.gd_names.specs.Ordered.{path_cmp};
 ghost use Rattle.od_merge.specs.Core.{is_in};
-ghost use Rattle.od_merge.specs.Merging.{first_held, is_barred, is_going, is_local_alone, target, own_cause, prefixes, why_held};
-ghost use Rattle.od_merge.specs.Sides.{at, is_file, is_kept, is_path};
+ghost use Rattle.od_merge.specs.Merging.{first_held, is_barred, is_local_alone, target, own_cause, prefixes, why_held};
+ghost use Rattle.od_merge.specs.Sides.{is_file, is_kept};
 ghost use Rattle.od_merge.specs.declared.why.Why.TheVariants.{BadName, PathTooLong, TooLarge, CaseClash, NoCopyName, Quota};
-ghost use Rattle.od_reconcile.specs.Holding.{IsLimiter, bars, has_bad_name, held_list, held_of, is_large, limiter_limits, limiter_sides, limits_of, same_caseless_path};
-ghost use Rattle.od_reconcile.specs.Looks.{IsReady, merge_sides};
+ghost use Rattle.od_reconcile.specs.Holding.{IsLeast, IsLimiter, IsSpelt, has_bad_name, has_target, held_list, held_of, is_large, limiter_limits, limiter_sides, limits_of, stays_there};
+ghost use Rattle.od_reconcile.specs.Looks.{HasStuck, IsReady, merge_sides};
 
 use crate::entries::{is_file, is_other_kind, is_same};
 use crate::folders::{has, set_of};
 use crate::look::{Look, is_going, stuck_on, target};
 use crate::merge::{here_at, is_left, there_at};
 use crate::side::is_kept;
+use crate::spelling::{has_other, is_before, least_of, lower_path, spelt_of};
 use crate::types::{Held, Node};
-use gd_names::{List, NoMemory, Path, Text, check_name, path_fits, same_caseless};
+use gd_names::{List, NoMemory, Path, Text, check_name, path_fits};
 use od_merge::Why;
 use std::alloc::Global;
-use std::collections::BTreeSet;
+use std::collections::{BTreeMap, BTreeSet};
 
 /// A look with what bars entries from the drive.
 #[derive(Drop)]
@@ -32,6 +31,8 @@ pub struct Limiter<'a> {
     pub stuck: BTreeSet<Path>,
     pub full: BTreeSet<Path>,
     pub large: BTreeSet<Path>,
+    pub staying: BTreeMap<Path, (Path, bool)>,
+    pub least: BTreeMap<Path, Path>,
 }
 
 fn is_large(node: Node) -> bool
@@ -75,22 +76,69 @@ fn has_bad_name(path: &Path) -> bool
     false
 }
 
-pub(crate) fn same_caseless_path(a: &Path, b: &Path) -> bool
-    ensures { result ≡ same_caseless_path a.now b.now }
+/// Whether the drive keeps what it has at a path.
+fn stays_there(look: &Look<'_>, stuck: &BTreeSet<Path>, path: &Path) -> bool
+    requires ready { IsReady look.now }
+    requires stuck { HasStuck (merge_sides look.now.merge.now) (merge_sides look.now.merge.now).remote stuck.now.keys }
+    ensures { result ≡ stays_there (merge_sides look.now.merge.now) path.now }
 {
-    let mut left = a.names();
-    let mut right = b.names();
-    while let [name, more @ ..] = left {
-        let [other, rest @ ..] = right else {
-            return false;
-        };
-        if !same_caseless(name, other) {
-            return false;
+    let merge = look.merge;
+    let both = merge.both;
+    there_at(merge, path).is_some() && !is_going(look, &both.there, stuck, path)
+}
+
+/// The paths at which the drive keeps what it has.
+fn kept_paths(alloc: Global, look: &Look<'_>, stuck: &BTreeSet<Path>) -> Result<Vec<Path>, NoMemory>
+    requires ready { IsReady look.now }
+    requires stuck { HasStuck (merge_sides look.now.merge.now) (merge_sides look.now.merge.now).remote stuck.now.keys }
+    ensures { IfOk result (λ found. found.items ≡ filter (stays_there (merge_sides look.now.merge.now)) look.now.paths.keys) }
+{
+    let mut found = Vec::new(alloc);
+    for path in look.paths.iter() {
+        if stays_there(look, stuck, path) {
+            found.push(path.clone()?)?;
         }
-        left = more;
-        right = rest;
     }
-    right.is_empty()
+    Ok(found)
+}
+
+/// The paths at which something is to stand.
+fn target_paths(alloc: Global, look: &Look<'_>) -> Result<Vec<Path>, NoMemory>
+    requires { IsReady look.now }
+    ensures { IfOk result (λ found. found.items ≡ filter (has_target (merge_sides look.now.merge.now)) look.now.paths.keys) }
+{
+    let mut found = Vec::new(alloc);
+    for path in look.paths.iter() {
+        if target(look, path).is_some() {
+            found.push(path.clone()?)?;
+        }
+    }
+    Ok(found)
+}
+
+/// What the drive keeps, by its spelling but for case.
+fn staying_of(
+    alloc: Global,
+    look: &Look<'_>,
+    stuck: &BTreeSet<Path>,
+) -> Result<BTreeMap<Path, (Path, bool)>, NoMemory>
+    requires ready { IsReady look.now }
+    requires stuck { HasStuck (merge_sides look.now.merge.now) (merge_sides look.now.merge.now).remote stuck.now.keys }
+    ensures { IfOk result (λ index. IsSpelt (filter (stays_there (merge_sides look.now.merge.now)) look.now.paths.keys) index.entries) }
+{
+    let kept = kept_paths(alloc, look, stuck)?;
+    let index = spelt_of(alloc, kept.as_slice())?;
+    Ok(index)
+}
+
+/// The least of the paths at which something is to stand, by its spelling but for case.
+fn least_targets(alloc: Global, look: &Look<'_>) -> Result<BTreeMap<Path, Path>, NoMemory>
+    requires { IsReady look.now }
+    ensures { IfOk result (λ index. IsLeast (filter (has_target (merge_sides look.now.merge.now)) look.now.paths.keys) index.entries) }
+{
+    let targets = target_paths(alloc, look)?;
+    let index = least_of(alloc, targets.as_slice())?;
+    Ok(index)
 }
 
 /// Makes ready what bars entries from the drive.
@@ -112,6 +160,8 @@ pub(crate) fn limiter_of<'a>(
     let full = set_of(alloc, quota)?;
     let found = large_paths(alloc, entries)?;
     let large = set_of(alloc, found.as_slice())?;
+    let staying = staying_of(alloc, look, &stuck)?;
+    let least = least_targets(alloc, look)?;
     Ok(Limiter {
         look,
         quota,
@@ -119,48 +169,26 @@ pub(crate) fn limiter_of<'a>(
         stuck,
         full,
         large,
+        staying,
+        least,
     })
 }
 
-/// Whether the drive keeps what it has at a path.
-fn stays_there(limiter: &Limiter<'_>, path: &Path) -> bool
-    requires { IsLimiter limiter.now }
-    ensures { result ≡ (is_some (at (limiter_sides limiter.now).remote path.now) && not (is_going (limiter_sides limiter.now) (limiter_sides limiter.now).remote path.now)) }
+fn is_taken(kept: bool, smaller: bool) -> bool
+    ensures { result ≡ (kept || smaller) }
 {
-    let look = limiter.look;
-    let merge = look.merge;
-    let both = merge.both;
-    there_at(merge, path).is_some() && !is_going(look, &both.there, &limiter.stuck, path)
-}
-
-fn comes_before(look: &Look<'_>, other: &Path, path: &Path) -> bool
-    requires { IsReady look.now }
-    ensures { result ≡ (is_some (target (merge_sides look.now.merge.now) other.now) && is_lt (path_cmp other.now path.now)) }
-{
-    target(look, other).is_some() && other.cmp(path).is_lt()
+    kept || smaller
 }
 
 /// Whether another path is this one, spelt otherwise, and has its place on the drive.
-fn bars(limiter: &Limiter<'_>, path: &Path, other: &Path) -> bool
+fn is_barred(alloc: Global, limiter: &Limiter<'_>, path: &Path) -> Result<bool, NoMemory>
     requires { IsLimiter limiter.now }
-    ensures { result ≡ bars (limiter_sides limiter.now) path.now other.now }
+    ensures { IfOk result (λ barred. barred ≡ is_barred (limiter_limits limiter.now) (limiter_sides limiter.now) path.now) }
 {
-    same_caseless_path(other, path)
-        && *other != *path
-        && (stays_there(limiter, other) || comes_before(limiter.look, other, path))
-}
-
-fn is_barred(limiter: &Limiter<'_>, path: &Path) -> bool
-    requires { IsLimiter limiter.now }
-    ensures { result ≡ is_barred (limiter_limits limiter.now) (limiter_sides limiter.now) path.now }
-{
-    let look = limiter.look;
-    for other in look.paths.iter() {
-        if bars(limiter, path, other) {
-            return true;
-        }
-    }
-    false
+    let key = lower_path(alloc, path)?;
+    let kept = has_other(limiter.staying.get(&key), path);
+    let smaller = is_before(limiter.least.get(&key), path);
+    Ok(is_taken(kept, smaller))
 }
 
 /// Whether a path, or that of a folder above it, has its place taken by another spelling.
@@ -172,7 +200,8 @@ fn is_clashing(alloc: Global, limiter: &Limiter<'_>, path: &Path) -> Result<bool
     for name in path.names() {
         above.push(name.clone()?)?;
         let prefix = Path::from_names(above.clone()?);
-        if is_barred(limiter, &prefix) {
+        let barred = is_barred(alloc, limiter, &prefix)?;
+        if barred {
             return Ok(true);
         }
     }

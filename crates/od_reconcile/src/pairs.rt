@@ -1,67 +1,48 @@
-ghost use Rattle.std.specs.Prelude.{◌≡◌, ◌&&◌, not, ℕ, List, [], ◌++◌, filter, find, IfOk, OnOk};
-ghost use Rattle.std.specs.List.{list_any};
-ghost use Rattle.std.specs.Option.{option_copied};
-ghost use Rattle.od_merge.specs.Merging.{is_going};
-ghost use Rattle.od_merge.specs.Pairs.{and_pair, comes_there, drive_pairs, folder_of, is_sent_now, local_pairs, may_move, pairs_from, source_for};
-ghost use Rattle.od_merge.specs.Sides.{is_path};
-ghost use Rattle.od_reconcile.specs.Holding.{IsLimiter, limiter_limits, limiter_sides, same_caseless_path};
-ghost use Rattle.od_reconcile.specs.Looks.{HasStuck, IsReady, IsSide, merge_sides};
-ghost use Rattle.od_reconcile.specs.Moving.{coming_paths, fits_here, is_moved_from, is_moved_to, is_source_here, is_source_there, is_target_here, is_target_there, pair_to};
+ghost use Rattle.std.specs.Prelude.{◌≡◌, ℕ, List, [], filter, IfOk, OnOk};
+ghost use Rattle.od_merge.specs.Pairs.{and_pair, comes_there, drive_pairs, folder_of, is_sent_now, local_pairs};
+ghost use Rattle.od_reconcile.specs.Holding.{IsLimiter, IsSpelt, limiter_limits, limiter_sides};
+ghost use Rattle.od_reconcile.specs.Looks.{HasStuck, IsReady, merge_sides};
+ghost use Rattle.od_reconcile.specs.Moving.{coming_paths, is_source_here, is_source_there, is_target_here, is_target_there};
+ghost use Rattle.od_reconcile.specs.Queues.{AddsPair, IsQueued, all_sources_here, all_sources_there, slot_here, slot_there};
 
 use crate::both::base_at;
-use crate::copies::split_last;
-use crate::entries::{is_file, is_same};
-use crate::holding::{Limiter, same_caseless_path, why_held};
+use crate::entries::{digest_of, is_file, is_same};
+use crate::holding::{Limiter, why_held};
 use crate::listing::{is_fetched, is_sent, needs_folder};
 use crate::look::{Look, is_going, stuck_on, target};
 use crate::merge::{here_at, there_at};
+use crate::queues::{Queue, Slot, push_source, slot_by, take_source};
+use crate::spelling::{lower_path, spelt_of};
+use crate::taken::split_last;
+use gd_item::Digest;
 use gd_names::{NoMemory, Path};
 use std::alloc::Global;
+use std::collections::BTreeMap;
 
-pub(crate) fn is_moved_from(pairs: &[(Path, Path)], path: &Path) -> bool
-    ensures { result ≡ is_moved_from pairs.now path.now }
-{
-    for pair in pairs {
-        if *path == pair.0 {
-            return true;
-        }
-    }
-    false
-}
-
-pub(crate) fn is_moved_to(pairs: &[(Path, Path)], path: &Path) -> bool
-    ensures { result ≡ is_moved_to pairs.now path.now }
-{
-    for pair in pairs {
-        if *path == pair.1 {
-            return true;
-        }
-    }
-    false
-}
-
-/// The pair that comes to a path.
-pub(crate) fn pair_to<'a>(pairs: &'a [(Path, Path)], path: &Path) -> Option<&'a (Path, Path)>
-    ensures { option_copied result ≡ pair_to pairs.now path.now }
-{
-    for pair in pairs {
-        if *path == pair.1 {
-            return Some(pair);
-        }
-    }
-    None
-}
-
-fn push_pair(pairs: &mut Vec<(Path, Path)>, from: Option<&Path>, to: &Path) -> Result<(), NoMemory>
-    ensures { OnOk result (pairs.new.items ≡ and_pair (option_copied from.entry) to.now pairs.old.items) }
+fn push_pair(pairs: &mut Vec<(Path, Path)>, from: Option<Path>, to: &Path) -> Result<(), NoMemory>
+    ensures { OnOk result (pairs.new.items ≡ and_pair from to.now pairs.old.items) }
 {
     match from {
         Some(from) => {
-            pairs.push((from.clone()?, to.clone()?))?;
+            pairs.push((from, to.clone()?))?;
             Ok(())
         }
         None => Ok(()),
     }
+}
+
+/// Adds the pair that comes to a path, if a source waits that may go there for bytes of the digest.
+fn add_pair(
+    queues: &mut BTreeMap<Slot, Queue>,
+    digest: Option<Digest>,
+    pairs: &mut Vec<(Path, Path)>,
+    to: &Path,
+) -> Result<(), NoMemory>
+    ensures { OnOk result (AddsPair digest to.now pairs.old.items pairs.new.items queues.old.entries queues.new.entries) }
+{
+    let from = take_source(queues, digest, to)?;
+    push_pair(pairs, from, to)?;
+    Ok(())
 }
 
 /// The files that go from the folder.
@@ -93,21 +74,27 @@ fn targets_here(alloc: Global, look: &Look<'_>) -> Result<Vec<Path>, NoMemory>
     Ok(found)
 }
 
-fn source_here<'a>(
-    look: &Look<'_>,
-    sources: &'a [Path],
-    pairs: &[(Path, Path)],
-    to: &Path,
-) -> Option<&'a Path>
+/// Where a file of the folder waits.
+fn slot_here(look: &Look<'_>, path: &Path) -> Result<Option<Slot>, NoMemory>
     requires { IsReady look.now }
-    ensures { option_copied result ≡ source_for (fits_here (merge_sides look.now.merge.now)) sources.now pairs.now to.now }
+    ensures { IfOk result (λ slot. slot ≡ slot_here (merge_sides look.now.merge.now) path.now) }
 {
-    for from in sources {
-        if is_same(here_at(look.merge, from), target(look, to)) && !is_moved_from(pairs, from) {
-            return Some(from);
-        }
+    let slot = slot_by(digest_of(here_at(look.merge, path)), None)?;
+    Ok(slot)
+}
+
+/// The files that go from the folder, in queues.
+fn queues_here(alloc: Global, look: &Look<'_>) -> Result<BTreeMap<Slot, Queue>, NoMemory>
+    requires { IsReady look.now }
+    ensures { IfOk result (λ queues. IsQueued (slot_here (merge_sides look.now.merge.now)) (all_sources_here (merge_sides look.now.merge.now)) [] queues.entries) }
+{
+    let sources = sources_here(alloc, look)?;
+    let mut queues = BTreeMap::new(alloc);
+    for path in sources.as_slice() {
+        let slot = slot_here(look, path)?;
+        push_source(alloc, &mut queues, slot, path)?;
     }
-    None
+    Ok(queues)
 }
 
 /// What moves in the folder, in the order of the new paths.
@@ -115,12 +102,12 @@ pub(crate) fn local_pairs(alloc: Global, look: &Look<'_>) -> Result<Vec<(Path, P
     requires { IsReady look.now }
     ensures { IfOk result (λ pairs. pairs.items ≡ local_pairs (merge_sides look.now.merge.now)) }
 {
-    let sources = sources_here(alloc, look)?;
+    let mut queues = queues_here(alloc, look)?;
     let targets = targets_here(alloc, look)?;
     let mut pairs = Vec::new(alloc);
     for to in targets.as_slice() {
-        let from = source_here(look, sources.as_slice(), pairs.as_slice(), to);
-        push_pair(&mut pairs, from, to)?;
+        let digest = digest_of(target(look, to));
+        add_pair(&mut queues, digest, &mut pairs, to)?;
     }
     Ok(pairs)
 }
@@ -217,76 +204,55 @@ fn folder_of(alloc: Global, path: &Path) -> Result<Path, NoMemory>
     Ok(Path::from_names(above))
 }
 
-/// Whether a path to which something comes, another one than the new path, is the old one but for case.
-fn is_name_wanted(coming: &[Path], from: &Path, to: &Path) -> bool
-    ensures { result ≡ list_any (λ other. not (is_path other to.now) && same_caseless_path other from.now) coming.now }
-{
-    for other in coming {
-        if *other != *to && same_caseless_path(other, from) {
-            return true;
-        }
-    }
-    false
-}
-
-fn stays_free(limiter: &Limiter<'_>, coming: &[Path], folder: &Path, from: &Path, to: &Path) -> bool
+/// Where a file of the drive waits, given what comes by its spelling but for case. It may not go with its folder, nor where
+/// another path has its spelling by then.
+fn slot_there(
+    alloc: Global,
+    limiter: &Limiter<'_>,
+    coming: &BTreeMap<Path, (Path, bool)>,
+    path: &Path,
+) -> Result<Option<Slot>, NoMemory>
     requires { IsLimiter limiter.now }
-    ensures { result ≡ (not (is_going (limiter_sides limiter.now) (limiter_sides limiter.now).remote folder.now)
-        && not (list_any (λ other. not (is_path other to.now) && same_caseless_path other from.now) coming.now)) }
+    ensures { IfOk result (λ slot. slot ≡ slot_there (limiter_sides limiter.now) coming.now.entries path.now) }
 {
     let look = limiter.look;
     let merge = look.merge;
     let both = merge.both;
-    !is_going(look, &both.there, &limiter.stuck, folder) && !is_name_wanted(coming, from, to)
+    let folder = folder_of(alloc, path)?;
+    if is_going(look, &both.there, &limiter.stuck, &folder) {
+        return Ok(None);
+    }
+    let key = lower_path(alloc, path)?;
+    let slot = slot_by(digest_of(base_at(both, path)), coming.get(&key))?;
+    Ok(slot)
 }
 
-fn may_move(
+/// The files that go from the drive, in queues.
+fn queues_there(
     alloc: Global,
     limiter: &Limiter<'_>,
-    coming: &[Path],
-    from: &Path,
-    to: &Path,
-) -> Result<bool, NoMemory>
-    requires ready { IsLimiter limiter.now }
-    requires coming { coming.now ≡ coming_paths (limiter_limits limiter.now) (limiter_sides limiter.now) }
-    ensures { IfOk result (λ may. may ≡ may_move (limiter_limits limiter.now) (limiter_sides limiter.now) from.now to.now) }
+    coming: &BTreeMap<Path, (Path, bool)>,
+) -> Result<BTreeMap<Slot, Queue>, NoMemory>
+    requires { IsLimiter limiter.now }
+    ensures { IfOk result (λ queues. IsQueued (slot_there (limiter_sides limiter.now) coming.now.entries) (all_sources_there (limiter_sides limiter.now)) [] queues.entries) }
 {
-    let look = limiter.look;
-    let merge = look.merge;
-    let same = is_same(base_at(merge.both, from), target(look, to));
-    if same {
-        let folder = folder_of(alloc, from)?;
-        let free = stays_free(limiter, coming, &folder, from, to);
-        return Ok(free);
+    let sources = sources_there(alloc, limiter)?;
+    let mut queues = BTreeMap::new(alloc);
+    for path in sources.as_slice() {
+        let slot = slot_there(alloc, limiter, coming, path)?;
+        push_source(alloc, &mut queues, slot, path)?;
     }
-    Ok(false)
+    Ok(queues)
 }
 
-fn is_open(fits: bool, taken: bool) -> bool
-    ensures { result ≡ (fits && not taken) }
+/// What comes to the drive, by its spelling but for case.
+fn coming_of(alloc: Global, limiter: &Limiter<'_>) -> Result<BTreeMap<Path, (Path, bool)>, NoMemory>
+    requires { IsLimiter limiter.now }
+    ensures { IfOk result (λ index. IsSpelt (coming_paths (limiter_limits limiter.now) (limiter_sides limiter.now)) index.entries) }
 {
-    fits && !taken
-}
-
-fn source_there<'a>(
-    alloc: Global,
-    limiter: &Limiter<'_>,
-    coming: &[Path],
-    sources: &'a [Path],
-    pairs: &[(Path, Path)],
-    to: &Path,
-) -> Result<Option<&'a Path>, NoMemory>
-    requires ready { IsLimiter limiter.now }
-    requires coming { coming.now ≡ coming_paths (limiter_limits limiter.now) (limiter_sides limiter.now) }
-    ensures { IfOk result (λ from. option_copied from ≡ source_for (may_move (limiter_limits limiter.now) (limiter_sides limiter.now)) sources.now pairs.now to.now) }
-{
-    for from in sources {
-        let may = may_move(alloc, limiter, coming, from, to)?;
-        if is_open(may, is_moved_from(pairs, from)) {
-            return Ok(Some(from));
-        }
-    }
-    Ok(None)
+    let coming = coming_paths(alloc, limiter)?;
+    let index = spelt_of(alloc, coming.as_slice())?;
+    Ok(index)
 }
 
 /// What moves on the drive, in the order of the new paths.
@@ -297,20 +263,14 @@ pub(crate) fn drive_pairs(
     requires { IsLimiter limiter.now }
     ensures { IfOk result (λ pairs. pairs.items ≡ drive_pairs (limiter_limits limiter.now) (limiter_sides limiter.now)) }
 {
-    let coming = coming_paths(alloc, limiter)?;
-    let sources = sources_there(alloc, limiter)?;
+    let look = limiter.look;
+    let coming = coming_of(alloc, limiter)?;
+    let mut queues = queues_there(alloc, limiter, &coming)?;
     let targets = targets_there(alloc, limiter)?;
     let mut pairs = Vec::new(alloc);
     for to in targets.as_slice() {
-        let from = source_there(
-            alloc,
-            limiter,
-            coming.as_slice(),
-            sources.as_slice(),
-            pairs.as_slice(),
-            to,
-        )?;
-        push_pair(&mut pairs, from, to)?;
+        let digest = digest_of(target(look, to));
+        add_pair(&mut queues, digest, &mut pairs, to)?;
     }
     Ok(pairs)
 }

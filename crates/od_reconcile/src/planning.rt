@@ -13,11 +13,12 @@ ghost use Rattle.od_reconcile.specs.Promises.{Keeps};
 ghost use Rattle.od_reconcile.specs.Ready.{IsBothReady, sides_found};
 
 use crate::both::{Both, both_of};
-use crate::copies::{copies, renamed_entries};
+use crate::copies::copies;
 use crate::entries::{local_tree, remote_tree};
 use crate::holding::{held, limiter_of};
 use crate::look::look_at;
 use crate::merge::Merge;
+use crate::places::renamed_entries;
 use crate::side::side_of;
 use crate::steps::{down_list, up_list};
 use crate::types::{Down, Held, Node, Plan, Rename, Up};

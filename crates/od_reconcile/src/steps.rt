@@ -3,8 +3,10 @@ ghost use Rattle.std.specs.List.{filter_map};
 ghost use Rattle.od_merge.specs.Steps.{deepest_first};
 ghost use Rattle.od_reconcile.specs.Holding.{IsLimiter, limiter_limits, limiter_sides};
 ghost use Rattle.od_reconcile.specs.Looks.{IsReady, merge_sides};
+ghost use Rattle.od_reconcile.specs.Moving.{IsEnds};
 ghost use Rattle.od_reconcile.specs.Plans.{down_list, fetch_here, folder_here, folder_there, patch_there, removal_here, removal_there, send_there, up_list};
 
+use crate::ends::{Ends, ends_of};
 use crate::holding::Limiter;
 use crate::listing::{
     deepest_first, fetch_here, folder_here, folder_there, patch_there, push_if_some, removal_here,
@@ -22,17 +24,18 @@ use std::collections::BTreeMap;
 fn add_removals_here(
     alloc: Global,
     look: &Look<'_>,
-    pairs: &[(Path, Path)],
+    ends: &Ends<'_>,
     paths: &[Path],
     down: &mut List<Down>,
 ) -> Result<(), NoMemory>
-    requires { IsReady look.now }
-    ensures { OnOk result (down.new ≡ down.old ++ filter_map (removal_here (merge_sides look.now.merge.now) pairs.now) paths.now) }
+    requires ready { IsReady look.now }
+    requires ends { IsEnds ends.now }
+    ensures { OnOk result (down.new ≡ down.old ++ filter_map (removal_here (merge_sides look.now.merge.now) ends.now.pairs.now) paths.now) }
 {
     let merge = look.merge;
     let stuck = stuck_on(alloc, look, merge.here)?;
     for path in paths {
-        let step = removal_here(look, &stuck, pairs, path)?;
+        let step = removal_here(look, &stuck, ends, path)?;
         push_if_some(down, step)?;
     }
     Ok(())
@@ -52,14 +55,15 @@ fn add_folders_here(look: &Look<'_>, down: &mut List<Down>) -> Result<(), NoMemo
 fn add_fetches(
     look: &Look<'_>,
     items: &BTreeMap<Path, Item>,
-    pairs: &[(Path, Path)],
+    ends: &Ends<'_>,
     down: &mut List<Down>,
 ) -> Result<(), NoMemory>
-    requires { IsReady look.now }
-    ensures { OnOk result (down.new ≡ down.old ++ filter_map (fetch_here (merge_sides look.now.merge.now) items.now.entries pairs.now) look.now.paths.keys) }
+    requires ready { IsReady look.now }
+    requires ends { IsEnds ends.now }
+    ensures { OnOk result (down.new ≡ down.old ++ filter_map (fetch_here (merge_sides look.now.merge.now) items.now.entries ends.now.pairs.now) look.now.paths.keys) }
 {
     for path in look.paths.iter() {
-        let step = fetch_here(look, items, pairs, path)?;
+        let step = fetch_here(look, items, ends, path)?;
         push_if_some(down, step)?;
     }
     Ok(())
@@ -76,10 +80,11 @@ pub(crate) fn down_list(
 {
     let deepest = deepest_first(alloc, &look.paths)?;
     let pairs = local_pairs(alloc, look)?;
+    let ends = ends_of(alloc, pairs.as_slice())?;
     let mut down = List::new(alloc);
-    add_removals_here(alloc, look, pairs.as_slice(), deepest.as_slice(), &mut down)?;
+    add_removals_here(alloc, look, &ends, deepest.as_slice(), &mut down)?;
     add_folders_here(look, &mut down)?;
-    add_fetches(look, items, pairs.as_slice(), &mut down)?;
+    add_fetches(look, items, &ends, &mut down)?;
     Ok(down)
 }
 
@@ -87,15 +92,16 @@ pub(crate) fn down_list(
 fn add_removals_there(
     limiter: &Limiter<'_>,
     items: &BTreeMap<Path, Item>,
-    pairs: &[(Path, Path)],
+    ends: &Ends<'_>,
     paths: &[Path],
     up: &mut List<Up>,
 ) -> Result<(), NoMemory>
-    requires { IsLimiter limiter.now }
-    ensures { OnOk result (up.new ≡ up.old ++ filter_map (removal_there (limiter_sides limiter.now) items.now.entries pairs.now) paths.now) }
+    requires limiter { IsLimiter limiter.now }
+    requires ends { IsEnds ends.now }
+    ensures { OnOk result (up.new ≡ up.old ++ filter_map (removal_there (limiter_sides limiter.now) items.now.entries ends.now.pairs.now) paths.now) }
 {
     for path in paths {
-        let step = removal_there(limiter, items, pairs, path)?;
+        let step = removal_there(limiter, items, ends, path)?;
         push_if_some(up, step)?;
     }
     Ok(())
@@ -136,15 +142,16 @@ fn add_sends(
     alloc: Global,
     limiter: &Limiter<'_>,
     items: &BTreeMap<Path, Item>,
-    pairs: &[(Path, Path)],
+    ends: &Ends<'_>,
     up: &mut List<Up>,
 ) -> Result<(), NoMemory>
-    requires { IsLimiter limiter.now }
-    ensures { OnOk result (up.new ≡ up.old ++ filter_map (send_there (limiter_limits limiter.now) (limiter_sides limiter.now) items.now.entries pairs.now) limiter.now.look.now.paths.keys) }
+    requires limiter { IsLimiter limiter.now }
+    requires ends { IsEnds ends.now }
+    ensures { OnOk result (up.new ≡ up.old ++ filter_map (send_there (limiter_limits limiter.now) (limiter_sides limiter.now) items.now.entries ends.now.pairs.now) limiter.now.look.now.paths.keys) }
 {
     let look = limiter.look;
     for path in look.paths.iter() {
-        let step = send_there(alloc, limiter, items, pairs, path)?;
+        let step = send_there(alloc, limiter, items, ends, path)?;
         push_if_some(up, step)?;
     }
     Ok(())
@@ -155,15 +162,16 @@ fn add_carried(
     alloc: Global,
     limiter: &Limiter<'_>,
     items: &BTreeMap<Path, Item>,
-    pairs: &[(Path, Path)],
+    ends: &Ends<'_>,
     up: &mut List<Up>,
 ) -> Result<(), NoMemory>
-    requires { IsLimiter limiter.now }
-    ensures { OnOk result (up.new ≡ up.old ++ (filter_map (patch_there items.now.entries) pairs.now
-        ++ filter_map (send_there (limiter_limits limiter.now) (limiter_sides limiter.now) items.now.entries pairs.now) limiter.now.look.now.paths.keys)) }
+    requires limiter { IsLimiter limiter.now }
+    requires ends { IsEnds ends.now }
+    ensures { OnOk result (up.new ≡ up.old ++ (filter_map (patch_there items.now.entries) ends.now.pairs.now
+        ++ filter_map (send_there (limiter_limits limiter.now) (limiter_sides limiter.now) items.now.entries ends.now.pairs.now) limiter.now.look.now.paths.keys)) }
 {
-    add_patches(items, pairs, up)?;
-    add_sends(alloc, limiter, items, pairs, up)?;
+    add_patches(items, ends.pairs, up)?;
+    add_sends(alloc, limiter, items, ends, up)?;
     Ok(())
 }
 
@@ -179,15 +187,10 @@ pub(crate) fn up_list(
     let look = limiter.look;
     let deepest = deepest_first(alloc, &look.paths)?;
     let pairs = drive_pairs(alloc, limiter)?;
+    let ends = ends_of(alloc, pairs.as_slice())?;
     let mut up = List::new(alloc);
-    add_removals_there(
-        limiter,
-        items,
-        pairs.as_slice(),
-        deepest.as_slice(),
-        &mut up,
-    )?;
+    add_removals_there(limiter, items, &ends, deepest.as_slice(), &mut up)?;
     add_folders_there(alloc, limiter, &mut up)?;
-    add_carried(alloc, limiter, items, pairs.as_slice(), &mut up)?;
+    add_carried(alloc, limiter, items, &ends, &mut up)?;
     Ok(up)
 }

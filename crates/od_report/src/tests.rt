@@ -11,14 +11,44 @@ fn sent(alloc: Global, path: &str) -> Result<Event, PathFault> {
     Ok(Event::SentThere(Path::read(alloc, path.as_bytes())?))
 }
 
-#[test]
-fn two_events_are_counted(rt: HostRuntime) -> Result<(), Fail> {
-    let alloc = rt.alloc();
+/// Tells all of a folder that was made, and of a file that was sent.
+fn tell_two(alloc: Global, listeners: &mut Vec<Box<dyn Listener>>) -> Result<(), Fail> {
+    tell_all(listeners, &made(alloc, "/d")?)?;
+    tell_all(listeners, &sent(alloc, "/d/f")?)?;
+    Ok(())
+}
+
+/// A listener that counts.
+fn counting(alloc: Global) -> Result<Vec<Box<dyn Listener>>, Fail> {
     let mut listeners: Vec<Box<dyn Listener>> = Vec::new(alloc);
     listeners.push(Box::new(alloc, CountListener::new())?)?;
-    tell_all(&mut listeners, &made(alloc, "/d")?)?;
-    tell_all(&mut listeners, &sent(alloc, "/d/f")?)?;
-    let listener = listeners.pop().ok_or("a listener")?;
+    Ok(listeners)
+}
+
+/// One that counts, and one that keeps what it is told.
+fn counting_and_keeping(alloc: Global) -> Result<Vec<Box<dyn Listener>>, Fail> {
+    let mut listeners = counting(alloc)?;
+    listeners.push(Box::new(alloc, ListListener::new(alloc))?)?;
+    Ok(listeners)
+}
+
+/// The listener that was put in last, after it was told of both.
+fn told_two(alloc: Global, listeners: Vec<Box<dyn Listener>>) -> Result<Box<dyn Listener>, Fail> {
+    let mut listeners = listeners;
+    tell_two(alloc, &mut listeners)?;
+    Ok(listeners.pop().ok_or("a listener")?)
+}
+
+/// Whether these are the two, in order.
+fn are_the_two(alloc: Global, events: &[Event]) -> Result<bool, Fail> {
+    let first = made(alloc, "/d")?;
+    let second = sent(alloc, "/d/f")?;
+    Ok(events.len() == 2 && events[0] == first && events[1] == second)
+}
+
+#[test]
+fn two_events_are_counted(rt: HostRuntime) -> Result<(), Fail> {
+    let listener = told_two(rt.alloc(), counting(rt.alloc())?)?;
     assert_eq!(rt; listener.told(), 2);
     assert!(rt; listener.events().is_none());
     Ok(())
@@ -26,17 +56,9 @@ fn two_events_are_counted(rt: HostRuntime) -> Result<(), Fail> {
 
 #[test]
 fn two_events_are_kept_in_order(rt: HostRuntime) -> Result<(), Fail> {
-    let alloc = rt.alloc();
-    let mut listeners: Vec<Box<dyn Listener>> = Vec::new(alloc);
-    listeners.push(Box::new(alloc, CountListener::new())?)?;
-    listeners.push(Box::new(alloc, ListListener::new(alloc))?)?;
-    tell_all(&mut listeners, &made(alloc, "/d")?)?;
-    tell_all(&mut listeners, &sent(alloc, "/d/f")?)?;
-    let listener = listeners.pop().ok_or("a listener")?;
+    let listener = told_two(rt.alloc(), counting_and_keeping(rt.alloc())?)?;
     let events = listener.events().ok_or("its events")?.as_slice();
-    assert_eq!(rt; events.len(), 2);
-    assert!(rt; events[0] == made(alloc, "/d")?);
-    assert!(rt; events[1] == sent(alloc, "/d/f")?);
+    assert!(rt; are_the_two(rt.alloc(), events)?);
     Ok(())
 }
 

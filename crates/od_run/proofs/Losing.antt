@@ -24,18 +24,13 @@ use Rattle.od_tree.specs.declared.step.LocalStep.{LocalStep}
 use Rattle.od_tree.specs.declared.step.LocalStep.TheVariants.{Op}
 use Rattle.od_tree.specs.declared.step.TreeOp.{TreeOp}
 use Rattle.od_tree.specs.declared.step.TreeOp.TheVariants as op
-use Rattle.od_tree.proofs.Contents.{apart-before}
-use Rattle.od_tree.proofs.Lossless.{no_more_lost}
+use Rattle.od_tree.proofs.Contents.{apart-before, contains-mapped, version-among}
+use Rattle.od_tree.proofs.Lossless.{no_more_lost, both, is_safe}
 use Rattle.od_tree.proofs.Paths.{text-self}
-use Rattle.od_tree.proofs.Staying.{at_path, in_held, in_holding, somewhere}
+use Rattle.od_tree.proofs.Staying.{at_path, in_held, in_holding, somewhere, without_first_held}
 use Rattle.od_tree.proofs.Steps.{local-snoc}
 use Rattle.od_run.specs.Good.{IsHeldAs, LosesNothing}
 use Rattle.od_run.proofs.Origins.{FileIn, HeldIn, StemsIn, held-in, stems, written-once}
-
--- ---- tests
-both : (a b : Bool) → a ≡ true → b ≡ true → (a && b) ≡ true
-both true b is_a is_b = is_b
-both false b is_a is_b = absurd (cc is_a)
 
 -- what each thing that is among some passes, these pass
 passed-each : {X : Type 0} (p : X → Bool) (xs : List X) → ((x : X) → Contains xs x → p x ≡ true) → list_all p xs ≡ true
@@ -59,19 +54,11 @@ any-at p (x ∷ xs) (suc i) d less is = or_right (p x) (list_any p xs) (any-at p
 any-one : {X : Type 0} (p : X → Bool) (xs : List X) (x : X) → Contains xs x → p x ≡ true → list_any p xs ≡ true
 any-one p xs x there is = any-at p xs there.0 x there.1 (subst (λ y. p y ≡ true) (sym there.2) is)
 
-contains-mapped : {X Y : Type 0} (f : X → Y) (xs : List X) (x : X) → Contains xs x → Contains (map f xs) (f x)
-contains-mapped f xs x there = (there.0, omega (arith, there.1, length-map xs f), get_or-map f xs there.0 x (f x) there.1 ∙ ap f there.2)
-
 -- ---- bytes of one digest
 write-among : (log : List LocalStep) (versions : List Version) (write : ℕ × List ℕ) → Contains (writes log) write → Contains (contents log versions) write.1
 write-among log versions write there =
     Contains-append_left (map (λ (w : ℕ × List ℕ). w.1) (writes log) ++ flat_map placed_by log) (map (λ (version : Version). version.bytes) versions) write.1
     (Contains-append_left (map (λ (w : ℕ × List ℕ). w.1) (writes log)) (flat_map placed_by log) write.1 (contains-mapped (λ (w : ℕ × List ℕ). w.1) (writes log) write there))
-
-version-among : (log : List LocalStep) (versions : List Version) (version : Version) → Contains versions version → Contains (contents log versions) version.bytes
-version-among log versions version there =
-    Contains-append_right (map (λ (w : ℕ × List ℕ). w.1) (writes log) ++ flat_map placed_by log) (map (λ (v : Version). v.bytes) versions) version.bytes
-    (contains-mapped (λ (v : Version). v.bytes) versions version there)
 
 -- what was written and has the digest of accepted bytes is accepted
 written-accepted : (log : List LocalStep) (versions : List Version) (write : ℕ × List ℕ) → NoCollision log versions → Contains (writes log) write
@@ -87,17 +74,10 @@ abbrev stems_held : ℕ → Option HeldFile → Bool
 stems_held n None = false
 stems_held n (Some file) = is_origin n file.file.origin
 
-without-first : (n : ℕ) (file : HeldFile) (held rest : List HeldFile) (here : Bool) (found : Option HeldFile) → (in_held n held ≡ true → (in_held n rest ≡ true) ⊎ (stems_held n found ≡ true))
-    → in_held n (file ∷ held) ≡ true → (in_held n (cond here held (file ∷ rest)) ≡ true) ⊎ (stems_held n (cond here (Some file) found) ≡ true)
-without-first n file held rest true found later is = ⊎_elim (λ first. inr first) (λ more. inl more) (or_cases (is_origin n file.file.origin) (in_held n held) is)
-without-first n file held rest false found later is =
-    ⊎_elim (λ first. inl (or_left (is_origin n file.file.origin) (in_held n rest) first))
-    (λ more. ⊎_elim (λ a. inl (or_right (is_origin n file.file.origin) (in_held n rest) a)) (λ b. inr b) (later more)) (or_cases (is_origin n file.file.origin) (in_held n held) is)
-
 left-or-taken : (n aside : ℕ) (held : List HeldFile) → in_held n held ≡ true → (in_held n (without_held aside held) ≡ true) ⊎ (stems_held n (held_at aside held) ≡ true)
 left-or-taken n aside [] is = inl is
 left-or-taken n aside (file ∷ held) is =
-    without-first n file held (without_held aside held) (nat_eq file.number aside) (held_at aside held) (left-or-taken n aside held) is
+    without_first_held n file held (without_held aside held) (nat_eq file.number aside) (held_at aside held) (left-or-taken n aside held) is
 
 by_refusal : (n : ℕ) (taken : Bool) (refusal : Option TreeFault) (done local : Local) → is_somewhere n local ≡ true → (is_somewhere n done ≡ true) ⊎ (taken ≡ true)
     → (is_somewhere n (cond (is_none refusal) done local) ≡ true) ⊎ (taken ≡ true)
@@ -138,9 +118,6 @@ writes-op at local [] call = refl
 writes-op at local (step ∷ log) call = ap (λ later. write_by at local step ++ later) (writes-op (at + 1) (after_step at local step) log call)
 
 -- ---- no loss
-abbrev is_safe : List Version → List LocalStep → ℕ × List ℕ → Bool
-is_safe versions log write = is_somewhere write.0 (local_of log) || is_replaced write.0 log || is_accepted write.1 versions
-
 safe-somewhere : (versions : List Version) (log : List LocalStep) (write : ℕ × List ℕ) → is_somewhere write.0 (local_of log) ≡ true → is_safe versions log write ≡ true
 safe-somewhere versions log write is =
     or_left (is_somewhere write.0 (local_of log) || is_replaced write.0 log) (is_accepted write.1 versions) (or_left (is_somewhere write.0 (local_of log)) (is_replaced write.0 log) is)

@@ -14,6 +14,7 @@ use Rattle.od_tree.specs.declared.step.LocalStep.{LocalStep}
 use Rattle.od_tree.specs.declared.step.LocalStep.TheVariants.{User, Op}
 use Rattle.od_tree.specs.declared.step.TreeOp.{TreeOp}
 use Rattle.od_tree.specs.declared.step.TreeOp.TheVariants as op
+use Rattle.od_tree.proofs.Contained.{all-cut, all-kept}
 use Rattle.od_run.proofs.Among.{of-each}
 
 abbrev Written : Type 0
@@ -40,20 +41,6 @@ InHeld known held = AllByRecursion (λ (file : HeldFile). FileIn known file.file
 pub record Stems (known : Written) (local : Local) : Type 0 where
   pub spots : InSpots known local.spots
   pub held : InHeld known local.held
-
--- ---- lists
-module _ {X : Type 0} where
-  all-cut : (b : Bool) (Q : X → Type 0) (x : X) (xs rest : List X) → Q x → AllByRecursion Q xs → AllByRecursion Q rest → AllByRecursion Q (cond b xs (x ∷ rest))
-  all-cut true Q x xs rest here all left = all
-  all-cut false Q x xs rest here all left = (here, left)
-
-  all-kept-if : (b : Bool) (Q : X → Type 0) (x : X) (rest : List X) → Q x → AllByRecursion Q rest → AllByRecursion Q (cond b (x ∷ rest) rest)
-  all-kept-if true Q x rest here left = (here, left)
-  all-kept-if false Q x rest here left = left
-
-  all-kept : (Q : X → Type 0) (test : X → Bool) (xs : List X) → AllByRecursion Q xs → AllByRecursion Q (filter test xs)
-  all-kept Q test [] all = tt
-  all-kept Q test (x ∷ xs) all = all-kept-if (test x) Q x (filter test xs) all.0 (all-kept Q test xs all.1)
 
 without-in : (known : Written) (at : List (List ℕ)) (spots : List Spot) → InSpots known spots → InSpots known (without_spot at spots)
 without-in known at [] all = tt

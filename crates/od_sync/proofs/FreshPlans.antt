@@ -17,7 +17,7 @@ use Rattle.gd_item.specs.Views.{uncounted}
 use Rattle.gd_laws.specs.Placed.{placed_items}
 use Rattle.od_mirror.specs.Pulled.{paths_of}
 use Rattle.gd_names.proofs.Mapped.{mapped}
-use Rattle.od_mirror.proofs.Standing.{paths-of-placed, tree-of-placed}
+use Rattle.od_pages.proofs.Standing.{paths-of-placed, tree-of-placed}
 use Rattle.od_tree.specs.Local.{is_path}
 use Rattle.od_sync.specs.FreshPlans.{FreshPlan}
 use Rattle.od_sync.specs.Planning.{fetches_of, planned_fetches, planned_folders}

@@ -20,7 +20,7 @@ use Rattle.od_sync.specs.declared.planning.Fetching.{Fetching}
 use Rattle.od_tree.proofs.Below.{from-self}
 use Rattle.gd_laws.proofs.PlacedItems.{IsAt, item_bytes}
 use Rattle.od_sync.proofs.FreshPlansTrees.{file_of, files, folder_of, folders}
-use Rattle.od_mirror.proofs.Uncounted.{paths-uncounted}
+use Rattle.od_pages.proofs.Uncounted.{paths-uncounted}
 use Rattle.std.proofs.lemmas.Bool.{or_right}
 
 -- ---- the numbers of children do not count

@@ -8,9 +8,9 @@ use Rattle.gd_item.specs.declared.reply.PageLink.{PageLink}
 use Rattle.gd_item.specs.declared.reply.PageLink.TheVariants as link
 use Rattle.gd_item.specs.declared.step.Step.{Step}
 use Rattle.gd_item.proofs.Views.{items-later}
-use Rattle.od_mirror.specs.Pulls.{IsLastPage}
+use Rattle.od_pages.specs.Pulls.{IsLastPage}
 use Rattle.od_mirror.specs.declared.view.MirrorView.{MirrorView}
-use Rattle.od_mirror.proofs.Pulling.{pull-items, pull-sound, pull-never-bad}
+use Rattle.od_pages.proofs.Pulling.{pull-items, pull-sound, pull-never-bad}
 use Rattle.od_transfer.specs.Asking.{is_last_link}
 use Rattle.od_sync.specs.Pulls.{LastPage, PullsView, PullsBad, seen}
 

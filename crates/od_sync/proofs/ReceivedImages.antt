@@ -38,7 +38,7 @@ use Rattle.od_sync.proofs.Chained.{chain-page}
 use Rattle.od_sync.proofs.ImagesAfter.{pull_applied, pulled_items_rise, sound_items_rise}
 use Rattle.od_sync.proofs.KeptPull.{view-items, view-sound}
 use Rattle.gd_laws.proofs.Tokens.{last-served}
-use Rattle.od_mirror.proofs.Placing.{paths_below}
+use Rattle.od_pages.proofs.Placing.{paths_below}
 
 -- ---- the change of a pull
 pub received-is : (image next : Image) (kept items : List Item) (token : List ℕ) (remote : List (List (List ℕ) × Item)) (change : Change) → kept ≡ image.items → IsPullChange kept items token change

@@ -15,7 +15,7 @@ use Rattle.gd_item.specs.Views.{uncounted_kind, uncounted}
 use Rattle.od_mirror.specs.Pulled.{paths_of}
 use Rattle.od_sync.specs.Comparing.{IsKindAccepted}
 use Rattle.gd_laws.proofs.Placing.{items-known}
-use Rattle.od_mirror.proofs.Placing.{each-at-path}
+use Rattle.od_pages.proofs.Placing.{each-at-path}
 
 -- ---- whatever the numbers of children
 without-count : (versions : List Version) (kind : Kind) → IsKindAccepted versions kind → IsKindAccepted versions (uncounted_kind kind)

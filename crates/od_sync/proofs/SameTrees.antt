@@ -11,7 +11,7 @@ use Rattle.gd_laws.proofs.Logs.{sound-log}
 use Rattle.gd_item.specs.Views.{uncounted}
 use Rattle.gd_laws.specs.Placed.{placed_items}
 use Rattle.od_mirror.specs.Pulled.{paths_of}
-use Rattle.od_mirror.proofs.Standing.{paths-of-placed, tree-of-placed}
+use Rattle.od_pages.proofs.Standing.{paths-of-placed, tree-of-placed}
 use Rattle.od_tree.specs.Collisions.{contents, NoCollision}
 use Rattle.od_tree.specs.Local.{local_tree}
 use Rattle.od_tree.specs.declared.step.LocalStep.{LocalStep}

@@ -7,7 +7,7 @@ use Rattle.gd_item.specs.declared.item.Item.{Item}
 use Rattle.gd_item.specs.declared.item.Kind.{Kind}
 use Rattle.gd_item.specs.declared.item.Kind.TheVariants as kinds
 use Rattle.od_mirror.specs.Pulled.{paths_of}
-use Rattle.od_mirror.proofs.Uncounted.{paths-uncounted}
+use Rattle.od_pages.proofs.Uncounted.{paths-uncounted}
 use Rattle.od_sync.specs.Comparing.{is_same, is_same_entry, is_same_node}
 use Rattle.od_sync.specs.declared.scanning.Node.{Node as Found}
 use Rattle.od_sync.specs.declared.scanning.Node.TheVariants.{Folder, File}

@@ -8,7 +8,7 @@ ghost use Rattle.gd_item.specs.declared.item.Item.{Item};
 ghost use Rattle.gd_item.specs.declared.step.Step.{Step};
 ghost use Rattle.gd_item.specs.Views.{ItemsAre, uncounted};
 ghost use Rattle.od_mirror.specs.Pulled.{paths_of};
-ghost use Rattle.od_mirror.specs.Pulls.{token_then};
+ghost use Rattle.od_pages.specs.Pulls.{token_then};
 ghost use Rattle.od_mirror.specs.declared.view.MirrorView.{MirrorView};
 ghost use Rattle.od_transfer.specs.Alone.{AreOwnServed};
 ghost use Rattle.od_transfer.specs.Asking.{OwnAre};

@@ -32,15 +32,15 @@ record Known (known : List (List ℕ)) (local : Local) : Type 0 where
 
 -- ---- lists
 module _ {X : Type 0} where
-  all-cut : (b : Bool) (Q : X → Type 0) (x : X) (xs rest : List X) → Q x → AllByRecursion Q xs → AllByRecursion Q rest → AllByRecursion Q (cond b xs (x ∷ rest))
+  pub all-cut : (b : Bool) (Q : X → Type 0) (x : X) (xs rest : List X) → Q x → AllByRecursion Q xs → AllByRecursion Q rest → AllByRecursion Q (cond b xs (x ∷ rest))
   all-cut true Q x xs rest here all left = all
   all-cut false Q x xs rest here all left = (here, left)
 
-  all-kept-if : (b : Bool) (Q : X → Type 0) (x : X) (rest : List X) → Q x → AllByRecursion Q rest → AllByRecursion Q (cond b (x ∷ rest) rest)
+  pub all-kept-if : (b : Bool) (Q : X → Type 0) (x : X) (rest : List X) → Q x → AllByRecursion Q rest → AllByRecursion Q (cond b (x ∷ rest) rest)
   all-kept-if true Q x rest here left = (here, left)
   all-kept-if false Q x rest here left = left
 
-  all-kept : (Q : X → Type 0) (test : X → Bool) (xs : List X) → AllByRecursion Q xs → AllByRecursion Q (filter test xs)
+  pub all-kept : (Q : X → Type 0) (test : X → Bool) (xs : List X) → AllByRecursion Q xs → AllByRecursion Q (filter test xs)
   all-kept Q test [] all = tt
   all-kept Q test (x ∷ xs) all = all-kept-if (test x) Q x (filter test xs) all.0 (all-kept Q test xs all.1)
 

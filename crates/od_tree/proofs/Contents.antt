@@ -46,11 +46,11 @@ folder-among log versions =
     (spots-among (contents log versions) (local_of log).spots (contents_known log versions))
 
 -- ---- in the drive
-contains-mapped : {X Y : Type 0} (f : X → Y) (xs : List X) (x : X) → Contains xs x → Contains (map f xs) (f x)
+pub contains-mapped : {X Y : Type 0} (f : X → Y) (xs : List X) (x : X) → Contains xs x → Contains (map f xs) (f x)
 contains-mapped f xs x there =
     (there.0, omega (arith, there.1, length-map xs f), get_or-map f xs there.0 x (f x) there.1 ∙ ap f there.2)
 
-version-among : (log : List LocalStep) (versions : List Version) (version : Version) → Contains versions version → Contains (contents log versions) version.bytes
+pub version-among : (log : List LocalStep) (versions : List Version) (version : Version) → Contains versions version → Contains (contents log versions) version.bytes
 version-among log versions version there =
     Contains-append_right (map (λ (write : ℕ × List ℕ). write.1) (writes log) ++ flat_map placed_by log) (map (λ (version : Version). version.bytes) versions) version.bytes
     (contains-mapped (λ (version : Version). version.bytes) versions version there)

@@ -1,11 +1,11 @@
 -- A folder in memory goes on by one call, and what comes of calls where nothing is armed.
-use Rattle.std.proofs.Common.{◌≡◌, inl, inr, ℕ, false, take, List, [], ◌∷◌, ◌++◌, Some, refl, ap, sym, subst, ◌∙◌}
+use Rattle.std.proofs.Common.{◌≡◌, inl, inr, ℕ, false, ◌||◌, take, List, [], ◌∷◌, ◌++◌, Some, refl, ap, sym, subst, ◌∙◌}
 use Rattle.std.proofs.Math.Seq.{take-nil}
 use Rattle.std.proofs.lemmas.List.{append-nil, append_assoc}
 use Rattle.gd_names.proofs.Each.{each-append}
-use Rattle.od_tree.specs.GoingOn.{Begun, Called, GoesOn, Stays, Then, fails_next, failed_by, next_call}
+use Rattle.od_tree.specs.GoingOn.{Begun, Called, GoesOn, Stays, Then, fails_next, failed_by, next_call, next_calls}
 use Rattle.od_tree.specs.Memory.{log_of}
-use Rattle.od_tree.specs.Tied.{kind_of, call_of, is_listed, with_tied}
+use Rattle.od_tree.specs.Tied.{kind_of, call_of, is_listed, is_stopped, with_tied}
 use Rattle.od_tree.specs.Undisturbed.{IsOp, NoUser, GrowsByOps}
 use Rattle.od_tree.specs.declared.call.TreeCall.{TreeCall}
 use Rattle.od_tree.specs.declared.edit.UserEdit.{UserEdit}
@@ -69,21 +69,37 @@ unedited before after log none told goes =
     record { part = g.part; ops = g.ops; grown = ap (λ (steps : List LocalStep). Some steps) (g.grown ∙ ap (λ (steps : List LocalStep). steps ++ g.part) same) }
 
 -- ---- without listed calls
-unlisted-begun : (kind : ℕ) (before after : MemoryTree) → before.failing ≡ [] → Begun kind before after → (after.failing ≡ []) × (after.faults ≡ before.faults)
-unlisted-begun kind before after none begun =
-    (begun.failing ∙ none, begun.failures ∙ ap (λ (failing : List (TreeCall × ℕ)). failed_by (is_listed failing kind (next_call kind before)) before.faults) none)
+record IsUnlisted (before after : MemoryTree) : Type 0 where
+  failing : after.failing ≡ []
+  stops : after.stops ≡ []
+  faults : after.faults ≡ before.faults
 
-unlisted-called : (before after : MemoryTree) → before.failing ≡ [] → Called before after → (after.failing ≡ []) × (after.faults ≡ before.faults)
-unlisted-called before after none (call, inl begun) = unlisted-begun (kind_of (call_of call)) before after none begun
-unlisted-called before after none (call, inr worked) =
-    let begun = unlisted-begun (kind_of (call_of call)) before worked.ready none worked.begun in
-    (ap (λ (tree : MemoryTree). tree.failing) worked.done ∙ begun.0, ap (λ (tree : MemoryTree). tree.faults) worked.done ∙ begun.1)
+unlisted-begun : (kind : ℕ) (before after : MemoryTree) → before.failing ≡ [] → before.stops ≡ [] → Begun kind before after → IsUnlisted before after
+unlisted-begun kind before after none unstopped begun = record {
+  failing = begun.failing ∙ none;
+  stops = begun.stops ∙ unstopped;
+  faults =
+      begun.failures
+      ∙ ap (λ (failing : List (TreeCall × ℕ)). failed_by (is_listed failing kind (next_call kind before) || is_stopped before.stops (next_calls kind before)) before.faults) none
+      ∙ ap (λ (stops : List (TreeCall × ℕ)). failed_by (is_stopped stops (next_calls kind before)) before.faults) unstopped;
+}
 
-unlisted-goes : (before after : MemoryTree) → before.failing ≡ [] → GoesOn before after → (after.failing ≡ []) × (after.faults ≡ before.faults)
-unlisted-goes before _ none Stays = (none, refl)
-unlisted-goes before _ none (Then middle after first called) =
-    let one = unlisted-goes before middle none first in
-    let next = unlisted-called middle after one.0 called in (next.0, next.1 ∙ one.1)
+unlisted-called : (before after : MemoryTree) → before.failing ≡ [] → before.stops ≡ [] → Called before after → IsUnlisted before after
+unlisted-called before after none unstopped (call, inl begun) = unlisted-begun (kind_of (call_of call)) before after none unstopped begun
+unlisted-called before after none unstopped (call, inr worked) =
+    let begun = unlisted-begun (kind_of (call_of call)) before worked.ready none unstopped worked.begun in
+    record {
+      failing = ap (λ (tree : MemoryTree). tree.failing) worked.done ∙ begun.failing;
+      stops = ap (λ (tree : MemoryTree). tree.stops) worked.done ∙ begun.stops;
+      faults = ap (λ (tree : MemoryTree). tree.faults) worked.done ∙ begun.faults;
+    }
 
-pub unlisted : (before after : MemoryTree) → before.failing ≡ [] → GoesOn before after → after.faults ≡ before.faults
-unlisted before after none goes = (unlisted-goes before after none goes).1
+unlisted-goes : (before after : MemoryTree) → before.failing ≡ [] → before.stops ≡ [] → GoesOn before after → IsUnlisted before after
+unlisted-goes before _ none unstopped Stays = record { failing = none; stops = unstopped; faults = refl }
+unlisted-goes before _ none unstopped (Then middle after first called) =
+    let one = unlisted-goes before middle none unstopped first in
+    let next = unlisted-called middle after one.failing one.stops called in
+    record { failing = next.failing; stops = next.stops; faults = next.faults ∙ one.faults }
+
+pub unlisted : (before after : MemoryTree) → before.failing ≡ [] → before.stops ≡ [] → GoesOn before after → after.faults ≡ before.faults
+unlisted before after none unstopped goes = (unlisted-goes before after none unstopped goes).faults

@@ -4,6 +4,8 @@ pub mod Contained
 pub mod Contents
 pub mod Entries
 pub mod GoingOn
+pub mod HeldFiles
+pub mod Holding
 pub mod LeftAlone
 pub mod Lossless
 pub mod Paths

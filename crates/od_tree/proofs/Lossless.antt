@@ -15,7 +15,7 @@ use Rattle.od_tree.proofs.Replacing.{stays_or_replaced, write_stands}
 use Rattle.od_tree.proofs.Staying.{any-front}
 use Rattle.std.proofs.lemmas.Bool.{or_cases, or_left, or_right}
 
-both : (a b : Bool) → a ≡ true → b ≡ true → (a && b) ≡ true
+pub both : (a b : Bool) → a ≡ true → b ≡ true → (a && b) ≡ true
 both true b is_a is_b = is_b
 both false b is_a is_b = cc
 
@@ -44,7 +44,7 @@ writes-snoc at local (first ∷ log) last =
 
 -- ---- each step
 
-abbrev is_safe : List Version → List LocalStep → ℕ × List ℕ → Bool
+abbrev pub is_safe : List Version → List LocalStep → ℕ × List ℕ → Bool
 is_safe versions log write = is_somewhere write.0 (local_of log) || is_replaced write.0 log || is_accepted write.1 versions
 
 safe-still : (versions : List Version) (log : List LocalStep) (step : LocalStep) (write : ℕ × List ℕ) → is_discard step ≡ false → is_safe versions log write ≡ true → is_safe versions (log ++ step ∷ []) write ≡ true

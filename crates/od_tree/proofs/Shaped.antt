@@ -383,7 +383,7 @@ operated local (op.Discard number) standing =
 operated local op.Asides standing = standing
 
 -- ---- the log
-stepped : (step : ℕ) (local : Local) (first : LocalStep) → Standing local.spots → Standing (after_step step local first).spots
+pub stepped : (step : ℕ) (local : Local) (first : LocalStep) → Standing local.spots → Standing (after_step step local first).spots
 stepped step local (User edit) standing = by_place (has_place local edit) (after_placed_edit step local edit) local standing (λ place. placed step local edit standing place)
 stepped step local (Op call) standing = operated local call standing
 
@@ -391,7 +391,7 @@ all-stepped : (step : ℕ) (local : Local) (steps : List LocalStep) → Standing
 all-stepped step local [] standing = standing
 all-stepped step local (first ∷ steps) standing = all-stepped (step + 1) (after_step step local first) steps (stepped step local first standing)
 
-nothing-stands : Standing []
+pub nothing-stands : Standing []
 nothing-stands = record { distinct = tt; named = λ spot is root. is; parents = λ spot is. absurd is }
 
 pub folder-standing : (log : List LocalStep) → Standing (local_of log).spots

@@ -61,7 +61,7 @@ abbrev stems_held : ℕ → Option HeldFile → Bool
 stems_held n None = false
 stems_held n (Some file) = is_origin n file.file.origin
 
-without_first_held : (n : ℕ) (file : HeldFile) (held rest : List HeldFile) (here : Bool) (found : Option HeldFile) → (in_held n held ≡ true → (in_held n rest ≡ true) ⊎ (stems_held n found ≡ true))
+pub without_first_held : (n : ℕ) (file : HeldFile) (held rest : List HeldFile) (here : Bool) (found : Option HeldFile) → (in_held n held ≡ true → (in_held n rest ≡ true) ⊎ (stems_held n found ≡ true))
     → in_held n (file ∷ held) ≡ true → (in_held n (cond here held (file ∷ rest)) ≡ true) ⊎ (stems_held n (cond here (Some file) found) ≡ true)
 without_first_held n file held rest true found later is = ⊎_elim (λ first. inr first) (λ more. inl more) (or_cases (is_origin n file.file.origin) (in_held n held) is)
 without_first_held n file held rest false found later is =
@@ -79,7 +79,7 @@ found_first : (file found : HeldFile) (number : ℕ) (here : Bool) (rest : Optio
 found_first file found number true rest same later is = let e : file ≡ found = cc in subst (λ (f : HeldFile). f.number ≡ number) e (eqb-true file.number number (sym same))
 found_first file found number false rest same later is = later is
 
-found_number : (number : ℕ) (held : List HeldFile) (found : HeldFile) → held_at number held ≡ Some found → found.number ≡ number
+pub found_number : (number : ℕ) (held : List HeldFile) (found : HeldFile) → held_at number held ≡ Some found → found.number ≡ number
 found_number number [] found is = cc
 found_number number (file ∷ held) found is = found_first file found number (nat_eq file.number number) (held_at number held) refl (found_number number held found) is
 

@@ -1,11 +1,12 @@
 -- What one more step of a log does to the folder.
-use Rattle.std.proofs.Common.{◌≡◌, ℕ, ◌+◌, Bool, true, false, cond, List, [], ◌∷◌, ◌++◌, length, map, refl, ap, sym, ◌∙◌, subst, arith}
+use Rattle.std.proofs.Common.{◌≡◌, ℕ, ◌+◌, Bool, true, false, cond, is_none, List, [], ◌∷◌, ◌++◌, length, map, Option, None, refl, ap, sym, ◌∙◌, subst, arith}
 use Rattle.std.proofs.lemmas.List.{append-nil, append_assoc, map-append}
 use Rattle.std.proofs.lemmas.Bool.{cond-true}
-use Rattle.od_tree.specs.Doing.{with_last, Begins}
-use Rattle.od_tree.specs.Local.{Local, has_place, after_placed_edit, after_op, after_step, after_steps, empty_folder, local_of}
+use Rattle.od_tree.specs.Doing.{Begins}
+use Rattle.od_tree.specs.Local.{Local, has_place, after_placed_edit, after_done_op, op_refusal, after_step, after_steps, empty_folder, local_of}
 use Rattle.od_tree.specs.declared.edit.UserEdit.{UserEdit}
 use Rattle.od_tree.specs.declared.edit.UserEdit.TheVariants.{Write, Remove, Move, MakeFolder}
+use Rattle.od_tree.specs.declared.fault.TreeFault.{TreeFault}
 use Rattle.od_tree.specs.declared.local.HeldFile.{HeldFile}
 use Rattle.od_tree.specs.declared.local.Spot.{Spot}
 use Rattle.od_tree.specs.declared.step.LocalStep.{LocalStep}
@@ -22,14 +23,13 @@ pub local-snoc : (log : List LocalStep) (last : LocalStep) → local_of (log ++ 
 local-snoc log last = after_steps-snoc 0 empty_folder log last ∙ (let e : 0 + length log ≡ length log = omega arith in ap (λ n. after_step n (local_of log) last) e)
 
 -- a user's edit leaves what is held
-placed-held : (step : ℕ) (local : Local) (edit : UserEdit) → after_placed_edit step local edit ≡ record { spots = (after_placed_edit step local edit).spots; held = local.held }
+pub placed-held : (step : ℕ) (local : Local) (edit : UserEdit) → after_placed_edit step local edit ≡ record { spots = (after_placed_edit step local edit).spots; held = local.held }
 placed-held step local (Write at bytes) = refl
 placed-held step local (Remove at) = refl
 placed-held step local (Move from to) = refl
 placed-held step local (MakeFolder at) = refl
 
--- the folder after a user's edit, an operation that changes nothing, and one that makes an entry: `value` is the log
--- before, `room` the same log with more room
+-- the folder after a user's edit, and after an operation: `value` is the log before, `room` the same log with more room
 pub made : (value log room now : List LocalStep) (edit copy : UserEdit) (step : ℕ) (spots built : List Spot) (held : List HeldFile) → log ≡ value → room ≡ log → copy ≡ edit → now ≡ room ++ User copy ∷ []
     → local_of log ≡ record { spots = spots; held = held } → has_place (local_of value) edit ≡ true → step ≡ length room
     → ((others : List HeldFile) → built ≡ (after_placed_edit step (record { spots = spots; held = others }) edit).spots) → local_of now ≡ record { spots = built; held = held }
@@ -44,17 +44,16 @@ made value log room now edit copy step spots built held same same_room same_edit
     ∙ (placed-held (length log) before edit
     ∙ ap (λ (xs : List Spot). record { spots = xs; held = held }) (sym (subst (λ n. built ≡ (after_placed_edit n before edit).spots) step_here (are held)))))))
 
-pub noted : (value log now : List LocalStep) (call : TreeOp) (local : Local) → log ≡ value → now ≡ log ++ Op call ∷ [] → local_of log ≡ local → after_op (local_of value) call ≡ local_of value → local_of now ≡ local
-noted value log now call local same is_now is done =
-    ap local_of is_now ∙ (local-snoc log (Op call) ∙ (subst (λ xs. after_op (local_of xs) call ≡ local_of xs) (sym same) done ∙ is))
-
-pub added : (value log room now : List LocalStep) (call : TreeOp) (spot : Spot) (spots made : List Spot) (held : List HeldFile) → log ≡ value → room ≡ log → now ≡ room ++ Op call ∷ []
-    → made ≡ spots ++ spot ∷ [] → local_of log ≡ record { spots = spots; held = held } → after_op (local_of value) call ≡ with_last spot (local_of value) → local_of now ≡ record { spots = made; held = held }
-added value log room now call spot spots made held same same_room is_now is_made is done =
+-- `call` is not refused, and leads from the entries and the held files to those that are made
+pub operated : (value log room now : List LocalStep) (call : TreeOp) (spots made : List Spot) (held kept : List HeldFile) → log ≡ value → room ≡ log → now ≡ room ++ Op call ∷ []
+    → local_of log ≡ record { spots = spots; held = held } → op_refusal (local_of value) call ≡ None
+    → after_done_op (record { spots = spots; held = held }) call ≡ record { spots = made; held = kept } → local_of now ≡ record { spots = made; held = kept }
+operated value log room now call spots made held kept same same_room is_now is passes done =
+    let here : op_refusal (local_of log) call ≡ None = subst (λ xs. op_refusal (local_of xs) call ≡ None) (sym same) passes in
     ap local_of (is_now ∙ ap (λ xs. xs ++ Op call ∷ []) same_room)
     ∙ (local-snoc log (Op call)
-    ∙ (subst (λ xs. after_op (local_of xs) call ≡ with_last spot (local_of xs)) (sym same) done
-    ∙ (ap (with_last spot) is ∙ ap (λ (xs : List Spot). record { spots = xs; held = held }) (sym is_made))))
+    ∙ (cond-true (is_none (op_refusal (local_of log) call)) (after_done_op (local_of log) call) (local_of log) (ap (λ (refusal : Option TreeFault). is_none refusal) here)
+    ∙ (ap (λ (local : Local). after_done_op local call) is ∙ done)))
 
 -- ---- the edits that are tied to a call
 

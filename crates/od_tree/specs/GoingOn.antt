@@ -1,9 +1,10 @@
 -- How a folder in memory goes on by calls. Each is counted, as a failure too where it is listed; the edits that are tied to it
--- are made, and then its operation is done, unless it is listed or refused. What is armed stays as it was.
-use Rattle.std.proofs.Common.{◌≡◌, ◌⊎◌, inl, inr, ℕ, ◌≤◌, Bool, false, cond, List, [], ◌∷◌, ◌++◌, take, ap, arith}
+-- are made, and then its operation is done, unless it fails or is refused. It fails where it is listed, and where a stop is
+-- reached. What is armed stays as it was.
+use Rattle.std.proofs.Common.{◌≡◌, ◌⊎◌, inl, inr, ℕ, ◌≤◌, Bool, false, ◌||◌, cond, List, [], ◌∷◌, ◌++◌, take, ap, arith}
 use Rattle.std.specs.Prelude.{slice_index, slice_set}
 use Rattle.gd_names.specs.Counts.{one_more}
-use Rattle.od_tree.specs.Tied.{kind_of, call_of, is_listed, with_tied}
+use Rattle.od_tree.specs.Tied.{kind_of, call_of, is_listed, is_stopped, with_tied}
 use Rattle.od_tree.specs.declared.call.TreeCall.{TreeCall}
 use Rattle.od_tree.specs.declared.edit.UserEdit.{UserEdit}
 use Rattle.od_tree.specs.declared.memory.MemoryTree.{MemoryTree}
@@ -11,12 +12,15 @@ use Rattle.od_tree.specs.declared.step.LocalStep.{LocalStep}
 use Rattle.od_tree.specs.declared.step.LocalStep.TheVariants.{Op}
 use Rattle.od_tree.specs.declared.step.TreeOp.{TreeOp}
 
--- the number of the next call of a kind, and whether that call is listed as failing
+-- the number of the next call of a kind, how many calls there are with it, and whether it fails
 abbrev pub next_call : ℕ → MemoryTree → ℕ
 next_call kind tree = one_more (slice_index tree.calls kind)
 
+abbrev pub next_calls : ℕ → MemoryTree → List ℕ
+next_calls kind tree = slice_set tree.calls kind (next_call kind tree)
+
 abbrev pub fails_next : ℕ → MemoryTree → Bool
-fails_next kind tree = is_listed tree.failing kind (next_call kind tree)
+fails_next kind tree = is_listed tree.failing kind (next_call kind tree) || is_stopped tree.stops (next_calls kind tree)
 
 -- the count of failures after a call that fails, or does not
 abbrev pub failed_by : Bool → ℕ → ℕ
@@ -29,11 +33,12 @@ pub record FirstMade (edits : List (TreeCall × ℕ × UserEdit)) (kind number :
 
 -- a call of a kind begins: it is counted, and of the armed edits the first are looked at: all of them, unless memory is wanting
 pub record Begun (kind : ℕ) (before after : MemoryTree) : Type 0 where
-  pub counted : after.calls ≡ slice_set before.calls kind (next_call kind before)
+  pub counted : after.calls ≡ next_calls kind before
   pub failures : after.faults ≡ failed_by (fails_next kind before) before.faults
   pub later : before.faults ≤ after.faults
   pub edits : after.edits ≡ before.edits
   pub failing : after.failing ≡ before.failing
+  pub stops : after.stops ≡ before.stops
   pub first : FirstMade before.edits kind (next_call kind before) before.folder after.folder
 
 -- a call that is not listed: it begins, all edits that are tied to it are made, and then its operation is done

@@ -2,6 +2,7 @@ pub mod Calls
 pub mod Collisions
 pub mod Doing
 pub mod GoingOn
+pub mod Holding
 pub mod Listing
 pub mod Local
 pub mod Loss

@@ -20,6 +20,10 @@ edits_of tree = tree.edits
 abbrev pub failing_of : MemoryTree → List (TreeCall × ℕ)
 failing_of tree = tree.failing
 
+-- the calls from which on all fail
+abbrev pub stops_of : MemoryTree → List (TreeCall × ℕ)
+stops_of tree = tree.stops
+
 -- how many calls of each kind were made, and that none were
 abbrev pub calls_of : MemoryTree → List ℕ
 calls_of tree = tree.calls
@@ -32,6 +36,6 @@ abbrev pub is_empty : {X : Type 0} → List X → Bool
 is_empty [] = true
 is_empty (x ∷ xs) = false
 
--- whether no edits and no failures are armed
+-- whether no edits, no failures and no stops are armed
 abbrev pub is_undisturbed : MemoryTree → Bool
-is_undisturbed tree = is_empty (edits_of tree) && is_empty (failing_of tree)
+is_undisturbed tree = is_empty (edits_of tree) && is_empty (failing_of tree) && is_empty (stops_of tree)

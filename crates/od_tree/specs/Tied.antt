@@ -1,6 +1,6 @@
 -- The edits and the failures of a folder in memory are tied to its calls: to a kind of call, and to a number among the
 -- calls of that kind, from 1.
-use Rattle.std.specs.Prelude.{ℕ, Bool, ◌&&◌, cond, List, [], ◌∷◌, ◌++◌, nat_eq}
+use Rattle.std.specs.Prelude.{ℕ, Bool, ◌&&◌, cond, List, [], ◌∷◌, ◌++◌, nat_eq, nat_le, slice_index}
 use Rattle.std.specs.List.{list_any}
 use Rattle.od_tree.specs.Local.{local_of, has_place}
 use Rattle.od_tree.specs.declared.call.TreeCall.{TreeCall}
@@ -46,6 +46,10 @@ is_call tied at kind number = nat_eq (kind_of tied) kind && nat_eq at number
 -- whether a call is listed as failing
 abbrev pub is_listed : List (TreeCall × ℕ) → ℕ → ℕ → Bool
 is_listed failing kind number = list_any (λ (listed : TreeCall × ℕ). is_call listed.0 listed.1 kind number) failing
+
+-- whether so many calls of each kind have reached a stop
+abbrev pub is_stopped : List (TreeCall × ℕ) → List ℕ → Bool
+is_stopped stops calls = list_any (λ (stop : TreeCall × ℕ). nat_le stop.1 (slice_index calls (kind_of stop.0))) stops
 
 -- the log with an edit that is due and has a place, and with those that are tied to a call
 abbrev pub with_due : List LocalStep → Bool → UserEdit → List LocalStep

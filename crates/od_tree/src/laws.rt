@@ -4,9 +4,10 @@ ghost use Rattle.std.specs.List.{list_any, AllByRecursion};
 ghost use Rattle.gd_item.specs.declared.live.Version.{Version};
 ghost use Rattle.od_tree.specs.Collisions.{contents};
 ghost use Rattle.od_tree.specs.GoingOn.{GoesOn};
+ghost use Rattle.od_tree.specs.Holding.{ByNumber};
 ghost use Rattle.od_tree.specs.Local.{local_of, has_place};
 ghost use Rattle.od_tree.specs.Loss.{is_somewhere, is_replaced, no_loss};
-ghost use Rattle.od_tree.specs.Memory.{log_of, faults_of, edits_of, failing_of};
+ghost use Rattle.od_tree.specs.Memory.{log_of, faults_of, edits_of, failing_of, stops_of};
 ghost use Rattle.od_tree.specs.Shape.{IsTree, IsOneOf};
 ghost use Rattle.od_tree.specs.Taking.{may_take, is_discard};
 ghost use Rattle.od_tree.specs.Undisturbed.{GrowsByOps};
@@ -52,6 +53,11 @@ pub fn every_folder_is_a_tree()
     ensures { (log : List LocalStep) → IsTree (local_of log).spots }
 {}
 
+/// The held files of every folder stand in order of number, each with a number of its own.
+pub fn held_files_are_by_number()
+    ensures { (log : List LocalStep) → ByNumber (local_of log).held }
+{}
+
 /// The bytes of each file in the folder were written by the user or placed by the client.
 pub fn contents_were_written_or_placed()
     ensures { (log : List LocalStep) (versions : List Version) → AllByRecursion (λ (spot : Spot). IsOneOf (contents log versions) spot.file) (local_of log).spots }
@@ -62,7 +68,7 @@ pub fn an_unedited_folder_grows_by_operations()
     ensures { (before after : MemoryTree) (log : List LocalStep) → edits_of before ≡ [] → log_of before ≡ Some log → GoesOn before after → GrowsByOps log (log_of after) }
 {}
 
-/// A folder in memory at which no calls are listed never fails.
+/// A folder in memory at which no calls and no stops are listed never fails.
 pub fn an_unlisted_folder_never_fails()
-    ensures { (before after : MemoryTree) → failing_of before ≡ [] → GoesOn before after → faults_of after ≡ faults_of before }
+    ensures { (before after : MemoryTree) → failing_of before ≡ [] → stops_of before ≡ [] → GoesOn before after → faults_of after ≡ faults_of before }
 {}

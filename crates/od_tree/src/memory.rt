@@ -3,13 +3,15 @@ ghost use Rattle.gd_names.specs.Streams.{Rose};
 ghost use Rattle.od_tree.specs.Doing.{Begins};
 ghost use Rattle.od_tree.specs.GoingOn.{Begun, FirstMade, fails_next, failed_by, next_call};
 ghost use Rattle.od_tree.specs.Memory.{is_empty};
-ghost use Rattle.od_tree.specs.Tied.{kind_of, is_call, is_listed, with_due, with_tied};
+ghost use Rattle.od_tree.specs.Tied.{kind_of, is_call, is_listed, is_stopped, with_due, with_tied};
 
+use crate::aside::Aside;
 use crate::call::TreeCall;
 use crate::edit::UserEdit;
 use crate::entry::Entry;
 use crate::fault::TreeFault;
 use crate::folder::Folder;
+use crate::held::files_of;
 use crate::listing::tree_of;
 use crate::step::LocalStep;
 use crate::tree::Tree;
@@ -18,19 +20,21 @@ use std::alloc::Global;
 
 /// A folder in memory. Edits of the user are tied to the k-th call of a kind, counted from 1, and are made right before
 /// it; an edit without a place is left out. A call that is listed as failing does nothing beside, and is counted as a failure
-/// also where memory is wanting for its edits.
+/// also where memory is wanting for its edits. So are the call of a stop, and every call of any kind from then on.
 #[derive(Debug, Drop)]
 pub struct MemoryTree {
     folder: Folder,
     edits: List<(TreeCall, u64, UserEdit)>,
     failing: List<(TreeCall, u64)>,
+    stops: List<(TreeCall, u64)>,
     calls: [u64; 11],
     faults: u64,
 }
 
 impl MemoryTree {
     ghost use Rattle.od_tree.specs.Local.{local_of, local_tree, has_place};
-    ghost use Rattle.od_tree.specs.Memory.{log_of, faults_of, edits_of, failing_of, calls_of, no_calls};
+    ghost use Rattle.od_tree.specs.Holding.{files_of};
+    ghost use Rattle.od_tree.specs.Memory.{log_of, faults_of, edits_of, failing_of, stops_of, calls_of, no_calls};
 
     pub fn new(
         alloc: Global,
@@ -41,15 +45,38 @@ impl MemoryTree {
         ensures faults { faults_of result ≡ 0 }
         ensures edits { edits_of result ≡ edits }
         ensures failing { failing_of result ≡ failing }
+        ensures stops { stops_of result ≡ [] }
         ensures calls { calls_of result ≡ no_calls }
     {
         MemoryTree {
             folder: Folder::new(alloc),
             edits,
             failing,
+            stops: List::new(alloc),
             calls: [0; 11],
             faults: 0,
         }
+    }
+
+    /// Ties other edits and failures to the calls, which are counted anew. From the first stop that is reached on every call
+    /// fails.
+    pub fn arm(
+        &mut self,
+        edits: List<(TreeCall, u64, UserEdit)>,
+        failing: List<(TreeCall, u64)>,
+        stops: List<(TreeCall, u64)>,
+    )
+        ensures log { log_of self.new ≡ log_of self.old }
+        ensures faults { faults_of self.new ≡ faults_of self.old }
+        ensures edits { edits_of self.new ≡ edits }
+        ensures failing { failing_of self.new ≡ failing }
+        ensures stops { stops_of self.new ≡ stops }
+        ensures calls { calls_of self.new ≡ no_calls }
+    {
+        self.edits = edits;
+        self.failing = failing;
+        self.stops = stops;
+        self.calls = [0; 11];
     }
 
     /// The tree in order of path, with None for a folder. This is no step of the log.
@@ -57,6 +84,13 @@ impl MemoryTree {
         ensures { (log : List LocalStep) → log_of self.now ≡ Some log → IfOk result (λ entries. entries ≡ local_tree log) }
     {
         tree_of(alloc, self.folder.spots())
+    }
+
+    /// The held files in order of number, with their bytes. This is no step of the log.
+    pub fn held(&self, alloc: Global) -> Result<List<(Aside, Bytes)>, NoMemory>
+        ensures { (log : List LocalStep) → log_of self.now ≡ Some log → IfOk result (λ files. files ≡ files_of (local_of log).held) }
+    {
+        files_of(alloc, self.folder.held())
     }
 
     /// Makes a user's edit, and says whether it has a place.
@@ -67,6 +101,7 @@ impl MemoryTree {
         ensures faults { faults_of self.new ≡ faults_of self.old }
         ensures edits { edits_of self.new ≡ edits_of self.old }
         ensures failing { failing_of self.new ≡ failing_of self.old }
+        ensures stops { stops_of self.new ≡ stops_of self.old }
         ensures calls { calls_of self.new ≡ calls_of self.old }
     {
         self.folder.user(edit)
@@ -82,12 +117,13 @@ impl MemoryTree {
         ensures tied { OnOk result (self.new.folder ≡ with_tied self.old.folder self.old.edits (kind_of call) (next_call (kind_of call) self.old)) }
         ensures passes { OnOk result (fails_next (kind_of call) self.old ≡ false) }
         ensures alone { is_empty self.old.edits ≡ true → self.new.folder ≡ self.old.folder }
-        ensures no_faults { is_empty self.old.failing ≡ true → self.new.faults ≡ self.old.faults }
+        ensures no_faults { is_empty self.old.failing ≡ true → is_empty self.old.stops ≡ true → self.new.faults ≡ self.old.faults }
     {
         let kind = kind_of(call);
         let number = self.calls[kind].saturating_add(1);
         self.calls[kind] = number;
-        let fails = is_listed(self.failing.as_slice(), kind, number);
+        let fails = is_listed(self.failing.as_slice(), kind, number)
+            || is_stopped(self.stops.as_slice(), &self.calls);
         self.faults = failed_by(fails, self.faults);
         make_edits(&mut self.folder, self.edits.as_slice(), kind, number)?;
         if fails {
@@ -141,6 +177,18 @@ fn is_listed(failing: &[(TreeCall, u64)], kind: usize, number: u64) -> bool
 {
     for (call, at) in failing {
         if is_call(*call, *at, kind, number) {
+            return true;
+        }
+    }
+    false
+}
+
+/// Whether the calls have reached a stop.
+fn is_stopped(stops: &[(TreeCall, u64)], calls: &[u64; 11]) -> bool
+    ensures { result ≡ is_stopped stops.now calls.now }
+{
+    for (call, at) in stops {
+        if *at <= calls[kind_of(*call)] {
             return true;
         }
     }
@@ -220,10 +268,66 @@ impl Tree for MemoryTree {
         }
     }
 
+    fn remove_dir(&mut self, at: &Path) -> Result<(), TreeFault> {
+        self.begin(TreeCall::RemoveDir)?;
+        match self.folder.remove_dir(at) {
+            Ok(()) => Ok(()),
+            Err(fault) => Err(fault),
+        }
+    }
+
     fn place(&mut self, at: &Path, bytes: &[u8]) -> Result<(), TreeFault> {
         self.begin(TreeCall::Place)?;
         match self.folder.place(at, bytes) {
             Ok(()) => Ok(()),
+            Err(fault) => Err(fault),
+        }
+    }
+
+    fn rename(&mut self, from: &Path, to: &Path) -> Result<(), TreeFault> {
+        self.begin(TreeCall::Rename)?;
+        match self.folder.rename(from, to) {
+            Ok(()) => Ok(()),
+            Err(fault) => Err(fault),
+        }
+    }
+
+    fn set_aside(&mut self, at: &Path) -> Result<u64, TreeFault> {
+        self.begin(TreeCall::SetAside)?;
+        match self.folder.set_aside(at) {
+            Ok(number) => Ok(number),
+            Err(fault) => Err(fault),
+        }
+    }
+
+    fn read_aside(&mut self, alloc: Global, aside: u64) -> Result<Bytes, TreeFault> {
+        self.begin(TreeCall::ReadAside)?;
+        match self.folder.read_aside(alloc, aside) {
+            Ok(bytes) => Ok(bytes),
+            Err(fault) => Err(fault),
+        }
+    }
+
+    fn put_back(&mut self, aside: u64, to: &Path) -> Result<(), TreeFault> {
+        self.begin(TreeCall::PutBack)?;
+        match self.folder.put_back(aside, to) {
+            Ok(()) => Ok(()),
+            Err(fault) => Err(fault),
+        }
+    }
+
+    fn discard(&mut self, aside: u64) -> Result<(), TreeFault> {
+        self.begin(TreeCall::Discard)?;
+        match self.folder.discard(aside) {
+            Ok(()) => Ok(()),
+            Err(fault) => Err(fault),
+        }
+    }
+
+    fn asides(&mut self, alloc: Global) -> Result<List<Aside>, TreeFault> {
+        self.begin(TreeCall::Asides)?;
+        match self.folder.asides(alloc) {
+            Ok(asides) => Ok(asides),
             Err(fault) => Err(fault),
         }
     }

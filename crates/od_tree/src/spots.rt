@@ -1,6 +1,6 @@
-ghost use Rattle.std.specs.Prelude.{◌≡◌, ◌<◌, ℕ, ◌++◌, ◌∷◌, [], List, length, drop, IfOk, OnOk, OnErr, MatchOption, Some, None};
+ghost use Rattle.std.specs.Prelude.{◌≡◌, ◌<◌, ℕ, ◌++◌, ◌∷◌, [], List, length, drop, slice_get, IfOk, OnOk, OnErr, MatchOption, Some, None};
 ghost use Rattle.std.specs.List.{remove};
-ghost use Rattle.od_tree.specs.Local.{Local, moved_path, without_spot, without_from, moved_from, after_placed_edit};
+ghost use Rattle.od_tree.specs.Local.{Local, spot_at, moved_path, without_spot, without_from, moved_from, after_placed_edit};
 
 use crate::edit::UserEdit;
 use crate::local::{HeldFile, LocalFile, Spot};
@@ -10,7 +10,8 @@ use std::alloc::Global;
 
 /// The index of the first entry at a path.
 fn index_at(spots: &[Spot], at: &[Text]) -> Option<usize>
-    ensures { MatchOption result (without_spot at.now spots.now ≡ spots.now) (λ i. (i < length spots.now) × (without_spot at.now spots.now ≡ remove spots.now i)) }
+    ensures left { MatchOption result (without_spot at.now spots.now ≡ spots.now) (λ i. (i < length spots.now) × (without_spot at.now spots.now ≡ remove spots.now i)) }
+    ensures spot { MatchOption result (spot_at at.now spots.now ≡ None) (λ i. spot_at at.now spots.now ≡ slice_get spots.now i) }
 {
     let mut index = 0;
     while index < spots.len() {
@@ -37,6 +38,17 @@ fn put_spot(spots: &mut Vec<Spot>, at: &[Text], spot: Spot) -> Result<(), NoMemo
             spots.push(spot)?;
             Ok(())
         }
+    }
+}
+
+/// Takes the first entry at a path out of the entries.
+pub fn take_spot(spots: &mut Vec<Spot>, at: &[Text]) -> Option<Spot>
+    ensures spot { result ≡ spot_at at.now spots.old.items }
+    ensures left { spots.new.items ≡ without_spot at.now spots.old.items }
+{
+    match index_at(spots.as_slice(), at) {
+        Some(index) => Some(spots.remove(index)),
+        None => None,
     }
 }
 
@@ -80,7 +92,8 @@ fn moved_path(alloc: Global, from: &[Text], to: &[Text], path: &Path) -> Result<
     Ok(Path::from_names(names))
 }
 
-fn push_moved(
+/// Adds the entries of which those from a path on stand at another one.
+pub fn push_moved(
     alloc: Global,
     moved: &mut Vec<Spot>,
     spots: &[Spot],
@@ -148,7 +161,8 @@ fn move_spots(
     Ok(())
 }
 
-fn add_folder(spots: &mut Vec<Spot>, at: &Path) -> Result<(), NoMemory>
+/// Adds a folder.
+pub fn add_folder(spots: &mut Vec<Spot>, at: &Path) -> Result<(), NoMemory>
     ensures ok { OnOk result (spots.new.items ≡ spots.old.items ++ record { path = at.now; file = None } ∷ []) }
     ensures err { OnErr result (spots.new.items ≡ spots.old.items) }
 {

@@ -54,8 +54,9 @@ use Rattle.od_run.specs.Moments.{is_own_delta, last_asked}
 use Rattle.od_run.specs.Worlds.{World, Event, Asked, Worked, Kept, happens, steps_in}
 use Rattle.od_run.proofs.Goods.{good-after, good-beginning}
 use Rattle.od_run.proofs.Lasts.{last-missed}
-use Rattle.od_uploads.proofs.Parts.{at-gone, at-last, at-other, at-same, at-without, grown_at}
-use Rattle.od_uploads.proofs.Uploading.{effects-sending, new-at, none-at, number-apart, openers-grow, state-next}
+use Rattle.od_sends.proofs.Places.{no-store-fault}
+use Rattle.od_sends.proofs.Sessions.{at-gone, at-last, at-other, at-same, at-without, grown_at, new-at, none-at, number-apart, openers-grow}
+use Rattle.od_uploads.proofs.Uploading.{effects-sending, state-next}
 
 -- ---- a put over an item
 only-one : (p : Bool) → (false || (p || false) || false) ≡ true → p ≡ true
@@ -109,9 +110,6 @@ put-condition asked held (place.Under id name) bytes behaviour condition others 
     subst (λ b. HasCondition (held_by asked) held (file_effect id.0 name bytes (settled_in held id.0 name b false))) (sym to.0)
     (under-condition (held_by asked) held id.0 name bytes others
     (subst (λ c. None ≡ put_under_refusal held id.0 name bytes Fail c others) to.1 (subst (λ b. None ≡ put_under_refusal held id.0 name bytes b condition others) to.0 none)))
-
-no-store-fault : (fault : Option StoreFault) → None ≡ by_store fault → None ≡ fault
-no-store-fault fault none = mapped-none (λ (f : StoreFault). refuse (status_of f) (code_of f)) fault (sym none)
 
 -- where the client sends to
 pulled-last : (drive : List Step) (token : Option (List ℕ)) (pulled : Option (List Step)) (Holds : List Step → Type 0) → IfPulled (IsPulledAt drive token) pulled → AsPulled Holds pulled → Holds (last_asked drive)

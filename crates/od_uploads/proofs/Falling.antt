@@ -39,8 +39,8 @@ use Rattle.od_uploads.specs.Falling.{FallOnce, FallsApart, puts_at, puts_since}
 use Rattle.od_run.specs.Knowing.{Known, Sending, There, after_effects, begins, learn, reading_for, sending_of, sent_as, there_after, there_asked, there_brought, there_heard}
 use Rattle.od_run.specs.Worlds.{World, Event, Asked, Worked, Kept, happens, steps_in}
 use Rattle.od_run.proofs.Among.{among-head, of-each}
-use Rattle.od_uploads.proofs.Parts.{at-gone, at-last, at-other, at-same, at-without, grown_at}
-use Rattle.od_uploads.proofs.Uploading.{new-at, none-at, number-apart, openers-grow, state-next}
+use Rattle.od_sends.proofs.Sessions.{at-gone, at-last, at-other, at-same, at-without, grown_at, new-at, none-at, number-apart, openers-grow}
+use Rattle.od_uploads.proofs.Uploading.{state-next}
 
 -- ---- the place that an address names
 abbrev place_named : Address → List Place

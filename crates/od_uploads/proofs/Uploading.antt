@@ -36,8 +36,10 @@ use Rattle.od_run.specs.Acting.{IsPart, LegalFrom, May, MayRequest}
 use Rattle.od_run.specs.Knowing.{Known, Path, Sending, There, address_path, after_effects, begins, last_read, learn, reading_at_path, reading_for, sending_of, sent_as, there_after, there_asked, there_brought, there_heard}
 use Rattle.od_uploads.specs.Uploading.{IsReading, OwnPutsReading, PutsReading, UploadsReadings}
 use Rattle.od_run.specs.Worlds.{World, Event, Asked, Worked, Kept, happens, now, steps_in}
-use Rattle.od_uploads.proofs.Parts.{IsFilledBy, Live, at-gone, at-last, at-other, at-same, at-without, first-is, grown-filled, grown_at, whole-at-finish, whole-at-last}
+use Rattle.od_uploads.proofs.Parts.{IsFilledBy, Live, grown-filled, whole-at-finish, whole-at-last}
 use Rattle.od_run.proofs.Truths.{all-read, here-read, reading-later}
+use Rattle.od_sends.proofs.Sending.{first-is}
+use Rattle.od_sends.proofs.Sessions.{at-gone, at-last, at-other, at-same, at-without, grown_at, new-at, none-at, number-apart, opener-later, opener-new, openers-grow}
 
 abbrev Readings : Type 0
 Readings = List (Path × List ℕ)
@@ -57,9 +59,6 @@ Sends state known sending = (session : ℕ) (bytes : List ℕ) → sent_as sendi
 abbrev Fits : ℕ → List ℕ → Request → Type 0
 Fits session whole (Fragment number first last total bytes) = number ≡ session → IsPart whole first last total bytes
 Fits session whole request = Unit {0}
-
-pub number-apart : (count session : ℕ) → session ≤ count → nat_eq (count + 1) session ≡ false
-number-apart count session low = ne_eqb (count + 1) session (λ same. omega (arith, same, low))
 
 live-opened : (count session : ℕ) (whole : List ℕ) (found : Option Place) (behaviour : Conflict) (condition : Condition) (defer : Bool) (sessions : List Session) → session ≤ count
     → Live whole (session_at session sessions) → Live whole (session_at session (opened (count + 1) found behaviour condition defer sessions))
@@ -119,33 +118,6 @@ live-request state (Finish number) session whole low accepted fits live = live-w
 live-request state request session whole low accepted fits live = live
 
 -- ---- who opened it
-get-front : (xs ys : List Who) (i : ℕ) (x : Who) → slice_get xs i ≡ Some x → slice_get (xs ++ ys) i ≡ Some x
-get-front [] ys i x is = absurd (cc is)
-get-front (first ∷ xs) ys zero x is = is
-get-front (first ∷ xs) ys (suc i) x is = get-front xs ys i x is
-
-get-last : (xs : List Who) (x : Who) (i : ℕ) → i ≡ length xs → slice_get (xs ++ x ∷ []) i ≡ Some x
-get-last [] x zero is = refl
-get-last [] x (suc i) is = absurd (omega (arith, is))
-get-last (first ∷ xs) x zero is = absurd (omega (arith, is))
-get-last (first ∷ xs) x (suc i) is = get-last xs x i (omega (arith, is))
-
-opener-if : (b : Bool) (found later : Option Who) → (found ≡ Some Own → later ≡ Some Own) → cond b None found ≡ Some Own → cond b None later ≡ Some Own
-opener-if true found later then is = is
-opener-if false found later then is = then is
-
-opener-later : (session : ℕ) (openers more : List Who) → opener_of session openers ≡ Some Own → opener_of session (openers ++ more) ≡ Some Own
-opener-later session openers more is =
-    opener-if (nat_eq session 0) (slice_get openers (session - 1)) (slice_get (openers ++ more) (session - 1)) (get-front openers more (session - 1) Own) is
-
-opener-new : (openers : List Who) → opener_of (length openers + 1) (openers ++ Own ∷ []) ≡ Some Own
-opener-new openers =
-    let apart : nat_eq (length openers + 1) 0 ≡ false = ne_eqb (length openers + 1) 0 (λ same. omega (arith, same)) in
-    ap (λ b. cond b None (slice_get (openers ++ Own ∷ []) (length openers + 1 - 1))) apart ∙ get-last openers Own (length openers + 1 - 1) (omega arith)
-
-pub openers-grow : (state : State) (who : Who) (request : Request) → (more : List Who) × (openers_of state who request ≡ state.openers ++ more)
-openers-grow state who (OpenSession at name behaviour condition defer) = (who ∷ [], refl)
-openers-grow state who request = ([], sym (append-nil state.openers))
 
 -- ---- what is sent stays so
 sent-request : (state : State) (who : Who) (request : Request) (known : Readings) (session : ℕ) (whole : List ℕ) → is_none (refusal state request) ≡ true → Fits session whole request
@@ -208,28 +180,10 @@ read-for known some None bytes all is = absurd (cc is)
 read-for known some (Some path) bytes all is = read-at known some path bytes all is
 
 -- a session that is opened
-none-if : (b : Bool) (first : Session) (rest : Option Session) → b ≡ false → rest ≡ None → cond b (Some first) rest ≡ None
-none-if true first rest other none = absurd (cc other)
-none-if false first rest other none = none
-
-pub none-at : (count : ℕ) (sessions : List Session) → AllByRecursion (IsOpen count) sessions → session_at (count + 1) sessions ≡ None
-none-at count [] all = refl
-none-at count (first ∷ sessions) all =
-    let low : first.number ≤ count = (all.0).given in
-    none-if (nat_eq first.number (count + 1)) first (session_at (count + 1) sessions) (ne_eqb first.number (count + 1) (λ same. omega (arith, same, low))) (none-at count sessions all.1)
-
-new-if : (b : Bool) (last : Session) → b ≡ true → cond b (Some last) None ≡ Some last
-new-if true last is = refl
-new-if false last is = absurd (cc is)
 
 new-after : (b : Bool) (n : ℕ) (first last : Session) (rest later : Option Session) → cond b (Some first) rest ≡ None → (rest ≡ None → later ≡ Some last) → cond b (Some first) later ≡ Some last
 new-after true n first last rest later none then = absurd (cc none)
 new-after false n first last rest later none then = then none
-
-pub new-at : (n : ℕ) (sessions : List Session) (last : Session) → last.number ≡ n → session_at n sessions ≡ None → session_at n (sessions ++ last ∷ []) ≡ Some last
-new-at n [] last is none = new-if (nat_eq last.number n) last (eq-eqb last.number n is)
-new-at n (first ∷ sessions) last is none =
-    new-after (nat_eq first.number n) n first last (session_at n sessions) (session_at n (sessions ++ last ∷ [])) none (new-at n sessions last is)
 
 live-new : (count : ℕ) (whole : List ℕ) (found : Option Place) (behaviour : Conflict) (condition : Condition) (defer : Bool) (sessions : List Session) → AllByRecursion (IsOpen count) sessions
     → Live whole (session_at (count + 1) (opened (count + 1) found behaviour condition defer sessions))

@@ -2,7 +2,10 @@ use gd_json::Wire;
 use std::alloc::Global;
 use std::test::Fail;
 
+mod again;
+mod answers;
 mod bytes;
+mod frames;
 mod replies;
 mod requests;
 mod streams;

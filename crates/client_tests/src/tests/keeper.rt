@@ -94,3 +94,17 @@ fn second_call_fails(rt: HostRuntime) -> Result<(), Fail> {
     assert_eq!(rt; keeper.load(alloc)?.items.as_slice().len(), 2);
     Ok(())
 }
+
+/// From its stop on a keeper fails, until it is armed anew.
+#[test]
+fn stopped(rt: HostRuntime) -> Result<(), Fail> {
+    let alloc = rt.alloc();
+    let mut keeper = MemoryKeeper::new(alloc, List::new(alloc));
+    keeper.arm(List::new(alloc), Some(2));
+    assert_eq!(rt; keeper.commit(&no_change(alloc)), Ok(()));
+    assert_eq!(rt; keeper.commit(&no_change(alloc)), Err(KeeperFault::Failed));
+    assert_eq!(rt; keeper.commit(&no_change(alloc)), Err(KeeperFault::Failed));
+    keeper.arm(List::new(alloc), None);
+    assert_eq!(rt; keeper.commit(&no_change(alloc)), Ok(()));
+    Ok(())
+}

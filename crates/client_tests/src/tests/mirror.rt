@@ -172,3 +172,41 @@ fn a_digest_is_known_while_the_etag_stands(rt: HostRuntime) -> Result<(), Fail> 
     assert_eq!(rt; kind_after(rt.alloc(), "e2")?, Kind::Bare);
     Ok(())
 }
+
+/// A pull that goes on from a view, and whose last page is empty.
+fn resumed(alloc: Global, view: MirrorView) -> Result<MirrorView, PullFault> {
+    let mut mirror = Mirror::resume(alloc, view);
+    let link = PageLink::Delta(Text::from_str(alloc, "t1.5.3")?);
+    match mirror.take_page(&page(alloc, &[], link)?)? {
+        Taken::Last => mirror.finish(),
+        Taken::More => Err(PullFault::Memory),
+    }
+}
+
+#[test]
+fn a_pull_goes_on_from_a_view(rt: HostRuntime) -> Result<(), Fail> {
+    let rows = [
+        (1, 0, "root", 'd'),
+        (2, 1, "a", 'd'),
+        (3, 2, "b", 'd'),
+        (4, 3, "f", 'f'),
+    ];
+    let view = pulled(rt.alloc(), &rows, &[(2, 1, "c", 'd')])?;
+    let text = told(rt.alloc(), resumed(rt.alloc(), view))?;
+    assert_eq!(rt; text.as_str(), "t1.5.3 /c /c/b /c/b/f");
+    Ok(())
+}
+
+#[test]
+fn a_digest_is_learned_where_the_etag_stands(rt: HostRuntime) -> Result<(), Fail> {
+    let mut view = pulled(rt.alloc(), &[(1, 0, "root", 'd')], &[(2, 1, "a", 'b')])?;
+    let one = Tag(Text::from_str(rt.alloc(), "e1")?);
+    let two = Tag(Text::from_str(rt.alloc(), "e2")?);
+    let digest = Digest([7; 32]);
+    let bare = view.bare(rt.alloc())?;
+    assert!(rt; matches!(bare.as_slice(), [(id, etag)] if *id == ItemId(2) && *etag == one));
+    assert!(rt; !view.learn(rt.alloc(), ItemId(2), &two, digest));
+    assert!(rt; view.learn(rt.alloc(), ItemId(2), &one, digest));
+    assert!(rt; view.bare(rt.alloc())?.is_empty());
+    Ok(())
+}

@@ -87,6 +87,26 @@ fn scripts(rt: HostRuntime) -> Result<(), Fail> {
     Ok(())
 }
 
+/// A pull reads 4,096 pages at most: a drive with as many items as that is pulled, one with an item more is not.
+#[test]
+fn a_pull_ends_behind_the_greatest_number_of_pages(rt: HostRuntime) -> Result<(), Fail> {
+    let alloc = rt.alloc();
+    let mut script = String::from_str(alloc, "page 1\n")?;
+    for number in 0..4_095 {
+        script.push_str(format!(in alloc; "other mkdir /{number}\n")?.as_str())?;
+    }
+    script.push_str("pull\nother mkdir /last\npull\n")?;
+    let (ended, written) = replay_text(alloc, script.as_bytes(), Vec::new(alloc), Vec::new(alloc))?;
+    assert_eq!(rt; ended, ReplayStatus::Replayed);
+    assert!(rt;
+        written
+            .as_slice()
+            .starts_with(b"pull 4096\n/0/\n/1/\n/10/\n")
+    );
+    assert!(rt; written.as_slice().ends_with(b"\n/999/\npull Endless\n"));
+    Ok(())
+}
+
 /// A pull gives the drive's items in pages of any size, whatever was done between two pulls.
 #[test]
 fn pulls(rt: HostRuntime) -> Result<(), Fail> {

@@ -100,3 +100,29 @@ fn each_of_many_changes_is_a_page_of_its_own(rt: HostRuntime) -> Result<(), Fail
     }
     Ok(())
 }
+
+/// Puts so many bytes at a name in the root, and gives the status of the refusal, or 0.
+fn put_large(alloc: Global, drive: &mut Drive, name: &str, length: usize) -> Result<u16, Fail> {
+    let bytes = Vec::from_elem(alloc, 7, length)?;
+    let request = Request::Put {
+        at: address(alloc, 1, name)?,
+        bytes: Bytes::from_slice(alloc, bytes.as_slice())?,
+        behaviour: Conflict::Replace,
+        condition: Condition::Free,
+    };
+    Ok(status_of(drive, &request))
+}
+
+#[test]
+fn replaced_bytes_count_towards_the_most_that_a_drive_keeps(rt: HostRuntime) -> Result<(), Fail> {
+    let alloc = rt.alloc();
+    let mut drive = Drive::new(alloc, 200)?;
+    for time in 0..128 {
+        let status = put_large(alloc, &mut drive, "a", 4_194_304)?;
+        assert!(rt; status == 0, "{time}");
+    }
+    assert_eq!(rt; drive.store().kept_bytes(), 536_870_912);
+    assert_eq!(rt; put_large(alloc, &mut drive, "b", 1)?, 507);
+    assert_eq!(rt; put_large(alloc, &mut drive, "b", 0)?, 0);
+    Ok(())
+}

@@ -1,4 +1,4 @@
-ghost use Rattle.std.specs.Prelude.{◌≡◌, ◌++◌, [], List, length, map, take, IfOk, OnOk};
+ghost use Rattle.std.specs.Prelude.{◌≡◌, ◌++◌, [], List, map, take, IfOk, OnOk};
 ghost use Rattle.std.specs.Map.{values_of};
 ghost use Rattle.std.specs.Option.{option_copied, option_map};
 ghost use Rattle.std.specs.declared.ops.Bound.{Bound};
@@ -13,6 +13,7 @@ ghost use Rattle.gd_index.specs.Dated.{changed_past};
 ghost use Rattle.gd_index.specs.Indexed.{spot_cmp, at, item_and, items_at, children_start, while_in};
 
 use super::Index;
+use crate::counts::count_of;
 use crate::row::Row;
 use crate::spot::{Spot, make_spot};
 use gd_item::LiveItem;
@@ -35,8 +36,7 @@ impl Index {
     pub fn child_count(&self, parent: u64) -> u64
         ensures { result ≡ child_count parent self.now }
     {
-        let start = first_spot(self.alloc, parent);
-        count_from(&self.names, parent, Bound::Included(start))
+        count_of(&self.counts, parent)
     }
 
     /// The first children of a folder whose names come after another one, in order of their names in lower case.
@@ -53,22 +53,6 @@ impl Index {
         let items = items_of(self.alloc, &self.rows, numbers.as_slice())?;
         Ok(items)
     }
-}
-
-/// How many entries stand for a folder from a spot on.
-fn count_from(names: &BTreeMap<Spot, u64>, parent: u64, start: Bound<Spot>) -> u64
-    ensures count { result ≡ length (while_in parent (entries_between spot_cmp start Bound.Unbounded names.now.entries)) }
-    ensures ordered { IsOrdered spot_cmp names.now }
-{
-    let range = names.range((start, Bound::Unbounded));
-    let mut count = 0;
-    for (spot, _) in range {
-        if spot.0 != parent {
-            return count;
-        }
-        count += 1;
-    }
-    count
 }
 
 /// The numbers past a change number, in order of change.

@@ -1,11 +1,13 @@
 ghost use Rattle.std.specs.Prelude.{◌≡◌, ◌≢◌, ◌<◌, List, [], ◌∷◌, ◌++◌, None, not, false, map, filter, nat_eq, OnOk, IfOk, OnErr};
 ghost use Rattle.std.specs.List.{All};
-ghost use Rattle.std.specs.Option.{option_to_list};
+ghost use Rattle.std.specs.Option.{option_map, option_to_list};
 ghost use Rattle.gd_item.specs.Inventory.{live_at, changed, with_place, with_bytes, version_of};
 ghost use Rattle.gd_item.specs.Moves.{is_taken_by_other};
 ghost use Rattle.gd_item.specs.Nodes.{live_node, child_at};
+ghost use Rattle.gd_item.specs.declared.live.LiveItem.{LiveItem};
 
 use super::Index;
+use crate::counts::{count_less, count_more};
 use crate::row::Row;
 use crate::rows::{fill_row, insert_row, move_row, remove_row};
 use crate::spot::make_spot;
@@ -23,14 +25,34 @@ impl Index {
     {
         let key = make_spot(self.alloc, item.parent, &item.name)?;
         let spot = make_spot(self.alloc, item.parent, &item.name)?;
-        insert_row(
+        let parent = item.parent;
+        // No folder has more children than there are items.
+        let _count = self.rows.len();
+        count_more(&mut self.counts, parent)?;
+        match insert_row(
             &mut self.rows,
             &mut self.names,
             &mut self.changes,
             item,
             key,
             spot,
-        )
+        ) {
+            Ok(()) => Ok(()),
+            Err(NoMemory) => {
+                count_less(&mut self.counts, parent);
+                Err(NoMemory)
+            }
+        }
+    }
+
+    /// The folder of the item of a number.
+    fn folder_of(&self, number: u64) -> Option<u64>
+        ensures { result ≡ option_map (λ (item : LiveItem). item.parent) (live_at number self.now) }
+    {
+        match self.get(number) {
+            None => None,
+            Some(item) => Some(item.parent),
+        }
     }
 
     /// Gives the item of a number another folder and another name.
@@ -46,9 +68,14 @@ impl Index {
         ensures ok { OnOk result (self.new ≡ changed number (with_place change parent name) self.old) }
         ensures kept { OnErr result (self.new ≡ self.old) }
     {
+        let Some(from) = self.folder_of(number) else {
+            return Ok(());
+        };
         let key = make_spot(self.alloc, parent, &name)?;
         let spot = make_spot(self.alloc, parent, &name)?;
-        move_row(
+        let _count = self.rows.len();
+        count_more(&mut self.counts, parent)?;
+        match move_row(
             &mut self.rows,
             &mut self.names,
             &mut self.changes,
@@ -57,7 +84,16 @@ impl Index {
             name,
             key,
             spot,
-        )
+        ) {
+            Ok(()) => {
+                count_less(&mut self.counts, from);
+                Ok(())
+            }
+            Err(NoMemory) => {
+                count_less(&mut self.counts, parent);
+                Err(NoMemory)
+            }
+        }
     }
 
     /// Gives new bytes to the item of a number, and takes out the version that stood in it.
@@ -81,6 +117,12 @@ impl Index {
         ensures item { result ≡ live_at number self.old }
         ensures others { self.new ≡ filter (λ item. not (nat_eq item.number number)) self.old }
     {
-        remove_row(&mut self.rows, &mut self.names, &mut self.changes, number)
+        match remove_row(&mut self.rows, &mut self.names, &mut self.changes, number) {
+            None => None,
+            Some(item) => {
+                count_less(&mut self.counts, item.parent);
+                Some(item)
+            }
+        }
     }
 }

@@ -152,3 +152,29 @@ fn a_failed_call_ends_the_connection(rt: HostRuntime) -> Result<(), Fail> {
     }
     Ok(())
 }
+
+/// A file of so many bytes is put, and its bytes are asked for.
+fn put_and_download(alloc: Global, count: usize) -> Result<Vec<u8>, Fail> {
+    let head = format!(in alloc;
+        "PUT /v1.0/me/drive/root:/a.txt:/content HTTP/1.1\r\nContent-Length: {count}\r\n\r\n"
+    )?;
+    let body = vec![in alloc; b'a'; count]?;
+    let mut text = Vec::from_slice(alloc, head.as_bytes())?;
+    text.extend_from_slice(body.as_slice())?;
+    text.extend_from_slice(b"GET /v1.0/download/01GD0000000000000002/2 HTTP/1.1\r\n\r\n")?;
+    Ok(text)
+}
+
+#[test]
+fn large_bytes_are_written_behind_their_head(rt: HostRuntime) -> Result<(), Fail> {
+    let text = put_and_download(rt.alloc(), 65_537)?;
+    for (write_fails, expected) in [
+        (None, "201 200 | Ended"),
+        (Some(2), "201 | WriteFault"),
+        (Some(3), "201 200 | WriteFault"),
+    ] {
+        let told = served(rt.alloc(), text.as_slice(), 65_536, None, write_fails)?;
+        assert_eq!(rt; told.as_str(), expected, "{expected}");
+    }
+    Ok(())
+}

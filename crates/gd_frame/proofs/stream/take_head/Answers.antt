@@ -1,4 +1,4 @@
-use Rattle.std.proofs.Common.{◌≡◌, true, ◌+◌, ◌-◌, ◌<◌, ◌≤◌, ◌++◌, length, take, sym, ap, subst, ◌∙◌, arith, length-append}
+use Rattle.std.proofs.Common.{◌≡◌, true, false, ◌+◌, ◌-◌, ◌<◌, ◌≤◌, ◌++◌, length, take, sym, ap, subst, ◌∙◌, arith, length-append}
 use Rattle.std.proofs.lemmas.List.{length-take-le}
 use Rattle.gd_frame.specs.Syntax.{syntax_of}
 use Rattle.gd_frame.specs.Scanning.{IsFramed}
@@ -6,7 +6,7 @@ use Rattle.gd_frame.proofs.Heads.{plain, within, not_yet, awaits, stops, whole}
 use Rattle.gd_frame.proofs.Streams.{ends_later, with_piece}
 use Rattle.gd_frame.specs.Messages.{HasOpenHead}
 use Rattle.gd_frame.specs.Spots.{spot_of, is_known}
-use Rattle.gd_frame.proofs.Holding.{open_need, known_need}
+use Rattle.gd_frame.proofs.Holding.{known_need, known_long, unknown_never}
 use Rattle.gd_frame.proofs.stream.take_head.Goals as goal
 
 pub returns-then-total-end : goal.returns-then-total-end
@@ -63,13 +63,26 @@ returns-then-total-lt-MAX_HEAD c =
     let held = c.args.held.now.items in
     let piece = c.args.piece.now in
     let items = c.in_ok-extend_from_slice.ensures.items in
-    let known : is_known (spot_of kind c.args.at piece) ≡ true = ap is_known (sym c.spot_of-spot.ensures) ∙ sym c.if-is_known.ensures in
+    let known : is_known kind (spot_of kind c.args.at piece) ≡ true = ap (is_known kind) (sym c.spot_of-spot.ensures) ∙ sym c.if-is_known.ensures in
     let short : length (held ++ piece) < 65536 = omega (arith, c.if-total-lt-MAX_HEAD.true, ap length (c.as_slice-total.ensures.value ∙ items)) in
     rw c.spot_of-spot.ensures (known_need kind c.args.at held piece c.extend_from_slice.new.self.items c.requires.2 items known short)
 
-pub returns-in-Open : goal.returns-in-Open
-returns-in-Open c =
+pub returns-then-is_known : goal.returns-then-is_known
+returns-then-is_known c =
     let kind = c.args.kind in
+    let held = c.args.held.now.items in
+    let piece = c.args.piece.now in
     let items = c.in_ok-extend_from_slice.ensures.items in
+    let known : is_known kind (spot_of kind c.args.at piece) ≡ true = ap (is_known kind) (sym c.spot_of-spot.ensures) ∙ sym c.if-is_known.ensures in
+    let long : 65536 ≤ length (held ++ piece) = omega (arith, c.if-total-lt-MAX_HEAD.false, ap length (c.as_slice-total.ensures.value ∙ items)) in
+    known_long kind c.args.at held piece c.requires.2 known long
+
+pub unreachable-requires : goal.unreachable-requires
+unreachable-requires c =
+    let kind = c.args.kind in
+    let held = c.args.held.now.items in
+    let piece = c.args.piece.now in
+    let items = c.in_ok-extend_from_slice.ensures.items in
+    let unknown : is_known kind (spot_of kind c.args.at piece) ≡ false = ap (is_known kind) (sym c.spot_of-spot.ensures) ∙ sym c.if-is_known.ensures in
     let still = subst (HasOpenHead (syntax_of kind)) (c.as_slice.ensures.value ∙ items) c.in-Open.ensures in
-    rw c.spot_of-spot.ensures (open_need kind c.args.at c.args.held.now.items c.args.piece.now c.extend_from_slice.new.self.items c.requires.2 items still)
+    unknown_never kind c.args.at held piece c.requires.2 unknown still

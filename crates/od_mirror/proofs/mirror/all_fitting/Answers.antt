@@ -8,4 +8,8 @@ first_bad-requires c =
 
 pub returns-in-Some-clause-bad : goal.returns-in-Some-clause-bad
 returns-in-Some-clause-bad c n is =
-    least-bad-is c.args.items.entries c.deref.result.now c.in-Some.number n (c.deref.ensures.value ∙ c.in_ok-sorted.ensures.same) (cc) (c.in-Some.ensures.some c.in-Some.number refl)
+    least-bad-is c.args.items.entries c.deref.result.now c.in-Some.number n (c.deref.ensures.value ∙ c.in_ok-sorted.ensures.same) (cc) (c.in_ok-bad.ensures.some c.in-Some.number c.in-Some.is)
+
+pub returns-in-None-clause-rise : goal.returns-in-None-clause-rise
+returns-in-None-clause-rise c =
+    rw (c.in_ok-sorted.ensures.same) (rise-values c.args.items.entries c.in_ok-sorted.ensures.ordered c.requires)

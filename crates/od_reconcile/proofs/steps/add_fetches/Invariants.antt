@@ -6,4 +6,4 @@ use Rattle.od_reconcile.proofs.steps.add_fetches.Given as goal
 
 abbrev pub invariant-loop-path : goal.invariant-loop-path
 invariant-loop-path l =
-    l.down ++ filter_map (fetch_here (merge_sides l.look.merge.now) l.items.entries l.pairs) l.path-iterator ≡ l.fn.down ++ filter_map (fetch_here (merge_sides l.look.merge.now) l.items.entries l.pairs) l.look.paths.keys
+    l.down ++ filter_map (fetch_here (merge_sides l.look.merge.now) l.items.entries l.ends.pairs.now) l.path-iterator ≡ l.fn.down ++ filter_map (fetch_here (merge_sides l.look.merge.now) l.items.entries l.ends.pairs.now) l.look.paths.keys

@@ -1,6 +1,6 @@
 use Rattle.std.proofs.Common.{None}
 use Rattle.od_sync.specs.Pulls.{seen}
-use Rattle.od_mirror.proofs.Pulling.{first-items, first-token}
+use Rattle.od_pages.proofs.Pulling.{first-items, first-token}
 use Rattle.od_sync.proofs.KeptPull.{is-last-page}
 use Rattle.od_sync.proofs.laws.a_first_pull_mirrors_the_drive.Goals as goal
 

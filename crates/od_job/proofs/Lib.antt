@@ -1,0 +1,4 @@
+pub mod Standing
+pub mod Causing
+pub mod Ending
+pub mod Leading

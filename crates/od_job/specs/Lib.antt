@@ -1,0 +1,5 @@
+pub mod Asking
+pub mod Turns
+pub mod Runs
+pub mod Fits
+pub mod Examples

@@ -1,0 +1,5 @@
+pub mod Calling
+pub mod Glue
+pub mod Knowing
+pub mod Lifting
+pub mod Working

@@ -1,0 +1,14 @@
+pub mod Based
+pub mod Early
+pub mod Fed
+pub mod Learning
+pub mod Numbered
+pub mod Parts
+pub mod Placing
+pub mod Pulling
+pub mod Rooted
+pub mod Shown
+pub mod Standing
+pub mod Told
+pub mod Uncounted
+pub mod Underway

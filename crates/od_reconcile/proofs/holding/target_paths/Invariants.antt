@@ -1,0 +1,8 @@
+use Rattle.std.proofs.Common.{◌≡◌, ◌++◌, filter}
+use Rattle.od_reconcile.specs.Holding.{has_target}
+use Rattle.od_reconcile.specs.Looks.{merge_sides}
+use Rattle.od_reconcile.proofs.holding.target_paths.Given as goal
+
+abbrev pub invariant-loop-path : goal.invariant-loop-path
+invariant-loop-path l =
+    l.found.items ++ filter (has_target (merge_sides l.look.merge.now)) l.path-iterator ≡ filter (has_target (merge_sides l.look.merge.now)) l.look.paths.keys

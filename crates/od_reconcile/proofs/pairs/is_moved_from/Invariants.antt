@@ -1,7 +1,0 @@
-use Rattle.std.proofs.Common.{◌≡◌, drop}
-use Rattle.od_reconcile.specs.Moving.{is_moved_from}
-use Rattle.od_reconcile.proofs.pairs.is_moved_from.Given as goal
-
-abbrev pub invariant-loop-pair : goal.invariant-loop-pair
-invariant-loop-pair l =
-    is_moved_from l.pairs l.path ≡ is_moved_from (drop l.pair-index l.pairs) l.path

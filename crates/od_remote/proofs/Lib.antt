@@ -1,0 +1,3 @@
+pub mod Logs
+pub mod Repeats
+pub mod Unserved

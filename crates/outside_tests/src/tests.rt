@@ -1,0 +1,3 @@
+mod again;
+mod bundle;
+mod drive;
