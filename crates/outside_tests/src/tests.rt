@@ -1,3 +1,5 @@
 mod again;
 mod bundle;
 mod drive;
+mod feed;
+mod pull;

@@ -1,0 +1,6 @@
+pub mod Asking
+pub mod Beginning
+pub mod Ends
+pub mod Quiet
+pub mod Taking
+pub mod Written
