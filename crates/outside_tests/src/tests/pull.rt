@@ -38,7 +38,9 @@ fn a_pull_begins_anew(rt: HostRuntime) -> Result<(), Fail> {
     };
     let view = pull(alloc, &mut outside, image.items, image.token)?;
     assert_eq!(rt; view.token, Text::from_str(alloc, "t2.2.2")?);
-    assert!(rt; matches!(view.items.as_slice(), [root, inside] if root.id == ItemId(1) && inside.id == ItemId(2)));
+    assert!(rt;
+        matches!(view.items.as_slice(), [root, inside] if root.id == ItemId(1) && inside.id == ItemId(2))
+    );
     assert_eq!(rt; drive.answers, 3);
     let image = keeper.load(alloc)?;
     assert!(rt; image.token.is_none() && image.rules.is_none());
