@@ -1,5 +1,5 @@
 -- One request for changes of a pull.
-use Rattle.std.proofs.Common.{◌≡◌, ◌⊎◌, inl, inr, ℕ, ◌≤◌, Bool, true, false, ◌||◌, List, [], ◌∷◌, ◌++◌, Option, Some, None, Result, Ok, Err, refl, ap, sym, subst, ◌∙◌, arith}
+use Rattle.std.proofs.Common.{◌≡◌, ◌⊎◌, inl, inr, ℕ, ◌≤◌, Bool, true, false, List, [], ◌∷◌, ◌++◌, Option, Some, None, Result, Ok, Err, refl, ap, sym, subst, ◌∙◌, arith}
 use Rattle.std.specs.Option.{option_map}
 use Rattle.std.proofs.lemmas.List.{append-nil}
 use Rattle.gd_item.specs.Answers.{answer_of, answer_served}
@@ -19,19 +19,19 @@ use Rattle.od_outside.specs.Running.{IsKnown, Runs}
 use Rattle.od_outside.specs.Seeing.{Counts, Seen}
 use Rattle.od_outside.proofs.Calling.{runs-served}
 use Rattle.od_outside.proofs.Glue.{runs-by}
-use Rattle.od_remote.specs.Again.{HasServeCause, is_unserved}
+use Rattle.od_remote.specs.Again.{is_unserved}
 use Rattle.od_remote.specs.Asking.{DoesAsk, Sent}
 use Rattle.od_remote.specs.Counting.{Reading}
 use Rattle.od_remote.specs.declared.again.ServeFault.{ServeFault}
 use Rattle.od_remote.specs.declared.again.ServeFault.TheVariants as serve
 use Rattle.od_run.specs.Good.{IsToken}
 use Rattle.od_run.specs.Knowing.{Known, learned, pulled_by, token_after}
-use Rattle.od_run.specs.Worlds.{World, Event, Asked, now}
+use Rattle.od_run.specs.Worlds.{World, Event, Asked, now, steps_in}
 use Rattle.od_run.proofs.Legal.{learned-append, now-append}
 use Rattle.od_pull.specs.Parts.{AsksNext, HasAnswer, IsAnswer, IsQuiet, StopFact, StoppedBy}
-use Rattle.od_pull.specs.Pulls.{EmptiesImage, Keeps, PullCause, StopCause, is_to_send, told_to_send}
+use Rattle.od_pull.specs.Pulls.{Keeps, PullCause, StopCause, is_to_send}
 use Rattle.od_pull.specs.Stops.{serve_stop}
-use Rattle.od_pull.proofs.Quiet.{empties-quiet, or-nothing, quiet-spent, quiet-told}
+use Rattle.od_pull.proofs.Quiet.{drive-now, empties-quiet, or-nothing, quiet-spent, quiet-told}
 use Rattle.od_pull.proofs.Written.{token-written}
 
 ask-may : (token : Option (List ℕ)) (w : World) (k : Known) → IsKnown w k → AsksNext token k → MayBeAsked (Delta token) k
@@ -123,7 +123,9 @@ answer-at : (mirror : Pulled) (reply : Reply) (w : World) (k : Known) (part : Li
 answer-at mirror reply w k part size least most quiet said =
     let last = Asked size (Ask Own (Delta mirror.token) true true) in
     record {
+      before = steps_in part;
       drive = (now w part).drive;
+      drive_is = drive-now w part;
       size = size;
       least = least;
       most = most;
@@ -190,7 +192,7 @@ asked-reply {S} {o} {a} {b} mirror reply calls =
 stop-cause : (reads : Reading) (request : Request) (fault : ServeFault) (before now : Counts) → ServeCause request (Err fault) reads before now → StopCause (serve_stop fault) reads before now
 stop-cause reads request serve.Failed before now cause = let row = cause.in_row refl in record { faults = cause.faults; in_row = omega (arith, row) }
 stop-cause reads request serve.Unserved before now cause = record { replies = cause.replies; some = cause.some; few = cause.spent.within; answers = cause.spent.answers; faults = cause.spent.faults }
-stop-cause reads request (serve.Bad bytes) before now cause = let one = cause.spent.answers in let two = cause.cause.came.answers in omega (arith, one, two)
+stop-cause reads request (serve.Bad bytes) before now cause = record { request = request; before = cause.counts; came = cause.cause }
 stop-cause reads request serve.Memory before now cause = tt
 
 stop-says : (mirror : Pulled) (fault : ServeFault) (w : World) (k : Known) (more : List Event) → ServeAfter mirror.token (Err fault) k (learned w k more) → ServeFact mirror (Err fault) w k more

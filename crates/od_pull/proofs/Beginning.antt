@@ -2,13 +2,13 @@
 use Rattle.std.proofs.Common.{◌≡◌, inl, inr, ℕ, true, List, [], ◌∷◌, ◌++◌, Option, Some, None, Result, Ok, Err, refl, ap, sym, subst, ◌∙◌, cond}
 use Rattle.gd_item.specs.declared.id.ItemId.{ItemId}
 use Rattle.gd_item.specs.declared.item.Item.{Item}
-use Rattle.od_keeper.specs.Images.{applied, empty_image}
+use Rattle.od_keeper.specs.Images.{applied}
 use Rattle.od_keeper.specs.declared.fault.KeeperFault.{KeeperFault}
 use Rattle.od_keeper.specs.declared.image.BaseRow.{BaseRow}
 use Rattle.od_keeper.specs.declared.image.Change.{Change}
 use Rattle.od_outside.specs.Calls.{AreOthers, Calls, own_events}
 use Rattle.od_outside.specs.Learning.{CommittedBy}
-use Rattle.od_outside.specs.Running.{IsKnown, Runs}
+use Rattle.od_outside.specs.Running.{Runs}
 use Rattle.od_outside.specs.Seeing.{Seen}
 use Rattle.od_outside.specs.Works.{DoesCommit, DoesCommitBy, KeepCause}
 use Rattle.od_outside.proofs.Glue.{runs-so}

@@ -1,6 +1,11 @@
 pub mod Asking
 pub mod Beginning
+pub mod Digests
 pub mod Ends
+pub mod Learns
+pub mod Looking
+pub mod Looks
 pub mod Quiet
 pub mod Taking
+pub mod Whole
 pub mod Written

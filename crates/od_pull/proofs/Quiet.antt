@@ -1,9 +1,9 @@
 -- Events that bring a pull nothing, and what was said over events one after another.
-use Rattle.std.proofs.Common.{◌≡◌, ℕ, Bool, true, false, ◌||◌, cond, List, [], ◌∷◌, ◌++◌, Option, Some, None, refl, ap, sym, subst, ◌∙◌}
+use Rattle.std.proofs.Common.{◌≡◌, ℕ, Bool, true, false, ◌||◌, cond, List, [], ◌∷◌, ◌++◌, Option, refl, ap, sym, subst, ◌∙◌, append_assoc}
+use Rattle.std.proofs.lemmas.List.{append-nil}
 use Rattle.gd_item.specs.Written.{IsWritten}
 use Rattle.gd_item.specs.declared.request.Request.{Request}
-use Rattle.gd_item.specs.declared.request.Request.TheVariants.{Delta}
-use Rattle.gd_item.specs.declared.step.Step.{Step}
+use Rattle.gd_item.specs.declared.request.Request.TheVariants.{Content, Delta, Download}
 use Rattle.gd_item.specs.declared.step.Step.TheVariants as step
 use Rattle.gd_item.specs.declared.step.Who.TheVariants.{Own, Other}
 use Rattle.od_keeper.specs.Images.{empty_image}
@@ -11,15 +11,24 @@ use Rattle.od_keeper.specs.declared.image.Image.{Image}
 use Rattle.od_mirror.specs.Pulled.{Pulled}
 use Rattle.od_outside.specs.Asks.{AreSuch}
 use Rattle.od_outside.specs.Calls.{AreOthers}
-use Rattle.od_pages.specs.Pulls.{Hears, IsPull}
+use Rattle.od_pages.specs.Pulls.{IsPull}
 use Rattle.od_pages.proofs.Pulling.{pull-goes-on}
-use Rattle.od_remote.specs.Again.{IsSpent}
+use Rattle.od_remote.specs.Again.{IsSpent, IsUnheard}
 use Rattle.od_run.specs.Knowing.{Known, learned}
-use Rattle.od_run.specs.Worlds.{World, Event, Asked, Worked, Kept, IsOther, happens, now}
+use Rattle.od_run.specs.Worlds.{World, Event, Asked, Worked, Kept, IsOther, happens, now, steps_in}
 use Rattle.od_run.proofs.Legal.{learned-append, now-append}
 use Rattle.od_tree.specs.declared.step.LocalStep.TheVariants.{User, Op}
+use Rattle.od_pull.specs.Digests.{IsLook}
 use Rattle.od_pull.specs.Parts.{IsQuiet}
-use Rattle.od_pull.specs.Pulls.{EmptiesImage, says_to_send, told_in, told_to_send}
+use Rattle.od_pull.proofs.Looks.{by-look}
+use Rattle.od_pull.specs.Pulls.{EmptiesImage, told_in, told_to_send}
+
+-- ---- the drive's log
+pub drive-now : (w : World) (events : List Event) → (now w events).drive ≡ w.drive ++ steps_in events
+drive-now w [] = sym (append-nil w.drive)
+drive-now w (Asked size step ∷ events) = drive-now (happens w (Asked size step)) events ∙ append_assoc w.drive (step ∷ []) (steps_in events)
+drive-now w (Worked step ∷ events) = drive-now (happens w (Worked step)) events
+drive-now w (Kept image ∷ events) = drive-now (happens w (Kept image)) events
 
 -- ---- one event
 record Leaves (w : World) (event : Event) : Type 0 where
@@ -56,20 +65,38 @@ pub quiet-others : (w : World) (k : Known) (part : List Event) → AreOthers par
 quiet-others w k [] others = quiet-none w k
 quiet-others w k (event ∷ part) others = quiet-more w k event part (other-leaves w event others.0) (quiet-others (happens w event) k part others.1)
 
-pub quiet-spent : (token : Option (List ℕ)) → IsWritten (Delta token) → (w : World) (k : Known) (part : List Event) → AreSuch (IsSpent (Delta token)) part → IsQuiet w k part
-quiet-spent token written w k [] such = quiet-none w k
-quiet-spent token written w k (Asked size (step.Ask Own sent served heard) ∷ part) such =
-    quiet-more w k (Asked size (step.Ask Own sent served heard)) part (spent-leaves token w size sent served heard written such.0.2)
-    (quiet-spent token written (happens w (Asked size (step.Ask Own sent served heard))) k part such.1)
-quiet-spent token written w k (Asked size (step.Ask Other sent served heard) ∷ part) such =
+quiet-such : (Such : Request → Bool → Bool → Type 0) → ((w : World) (size : ℕ) (sent : Request) (served heard : Bool) → Such sent served heard → Leaves w (Asked size (step.Ask Own sent served heard)))
+    → (w : World) (k : Known) (part : List Event) → AreSuch Such part → IsQuiet w k part
+quiet-such Such leaves w k [] such = quiet-none w k
+quiet-such Such leaves w k (Asked size (step.Ask Own sent served heard) ∷ part) such =
+    quiet-more w k (Asked size (step.Ask Own sent served heard)) part (leaves w size sent served heard such.0.2) (quiet-such Such leaves (happens w (Asked size (step.Ask Own sent served heard))) k part such.1)
+quiet-such Such leaves w k (Asked size (step.Ask Other sent served heard) ∷ part) such =
     quiet-more w k (Asked size (step.Ask Other sent served heard)) part (other-leaves w (Asked size (step.Ask Other sent served heard)) tt)
-    (quiet-spent token written (happens w (Asked size (step.Ask Other sent served heard))) k part such.1)
-quiet-spent token written w k (Asked size (step.Event event) ∷ part) such =
-    quiet-more w k (Asked size (step.Event event)) part (other-leaves w (Asked size (step.Event event)) tt) (quiet-spent token written (happens w (Asked size (step.Event event))) k part such.1)
-quiet-spent token written w k (Worked (User edit) ∷ part) such =
-    quiet-more w k (Worked (User edit)) part (other-leaves w (Worked (User edit)) tt) (quiet-spent token written (happens w (Worked (User edit))) k part such.1)
-quiet-spent token written w k (Worked (Op call) ∷ part) such = absurd such.0
-quiet-spent token written w k (Kept image ∷ part) such = absurd such.0
+    (quiet-such Such leaves (happens w (Asked size (step.Ask Other sent served heard))) k part such.1)
+quiet-such Such leaves w k (Asked size (step.Event event) ∷ part) such =
+    quiet-more w k (Asked size (step.Event event)) part (other-leaves w (Asked size (step.Event event)) tt) (quiet-such Such leaves (happens w (Asked size (step.Event event))) k part such.1)
+quiet-such Such leaves w k (Worked (User edit) ∷ part) such =
+    quiet-more w k (Worked (User edit)) part (other-leaves w (Worked (User edit)) tt) (quiet-such Such leaves (happens w (Worked (User edit))) k part such.1)
+quiet-such Such leaves w k (Worked (Op call) ∷ part) such = absurd such.0
+quiet-such Such leaves w k (Kept image ∷ part) such = absurd such.0
+
+pub quiet-spent : (token : Option (List ℕ)) → IsWritten (Delta token) → (w : World) (k : Known) (part : List Event) → AreSuch (IsSpent (Delta token)) part → IsQuiet w k part
+quiet-spent token written w k part such = quiet-such (IsSpent (Delta token)) (λ v size sent served heard spent. spent-leaves token v size sent served heard written spent) w k part such
+
+-- ---- looks
+look-leaves : (w : World) (size : ℕ) (request : Request) (served heard : Bool) → IsLook request → Leaves w (Asked size (step.Ask Own request served heard))
+look-leaves w size request served heard look =
+    by-look (λ (r : Request). Leaves w (Asked size (step.Ask Own r served heard)))
+    (λ at. record { pull = λ mirror pull. pull-goes-on w.drive mirror mirror (step.Ask Own (Content at) served heard) pull refl; told = refl })
+    (λ id version. record { pull = λ mirror pull. pull-goes-on w.drive mirror mirror (step.Ask Own (Download id version) served heard) pull refl; told = refl }) request look
+
+pub quiet-look : (w : World) (k : Known) (size : ℕ) (request : Request) (served heard : Bool) → IsLook request → IsQuiet w k (Asked size (step.Ask Own request served heard) ∷ [])
+quiet-look w k size request served heard look =
+    quiet-more w k (Asked size (step.Ask Own request served heard)) [] (look-leaves w size request served heard look) (quiet-none (happens w (Asked size (step.Ask Own request served heard))) k)
+
+pub quiet-unheard : (request : Request) → IsLook request → IsWritten request → (w : World) (k : Known) (part : List Event) → AreSuch (IsUnheard request) part → IsQuiet w k part
+quiet-unheard request look written w k part such =
+    quiet-such (IsUnheard request) (λ v size sent served heard unheard. look-leaves v size sent served heard (subst IsLook (sym (unheard.0 written)) look)) w k part such
 
 -- ---- one after another
 told-append : (w : World) (xs ys : List Event) → told_to_send w (xs ++ ys) ≡ (told_to_send w xs || told_to_send (now w xs) ys)

@@ -1,12 +1,12 @@
 -- From one answer to the next, and from the last one to a view.
-use Rattle.std.proofs.Common.{◌≡◌, ◌⊎◌, inl, inr, ℕ, ◌+◌, ◌≤◌, Bool, true, false, cond, List, [], ◌∷◌, ◌++◌, Option, Some, None, Result, Ok, Err, IsErrOf, refl, ap, sym, subst, ◌∙◌, arith}
+use Rattle.std.proofs.Common.{◌≡◌, ◌⊎◌, inl, inr, ℕ, ◌+◌, ◌≤◌, true, cond, List, [], ◌++◌, Option, Some, None, Result, Ok, Err, IsErrOf, refl, ap, sym, subst, ◌∙◌, append_assoc, arith}
 use Rattle.std.specs.Map.{values_of}
-use Rattle.gd_item.specs.Answers.{answer_of}
 use Rattle.gd_item.specs.Ids.{item_id}
 use Rattle.gd_item.specs.Records.{records_of}
 use Rattle.gd_item.specs.Replies.{is_page_or_gone}
-use Rattle.gd_item.specs.Steps.{held_at, held_by, number_of, state_of}
-use Rattle.gd_item.specs.Tokens.{token_of_text, token_text}
+use Rattle.gd_item.specs.Requests.{kind_of}
+use Rattle.gd_item.specs.Steps.{held_by, number_of, state_of}
+use Rattle.gd_item.specs.Tokens.{token_of_text}
 use Rattle.gd_item.specs.Views.{AreItemsOf, ItemsAre, TokenIs}
 use Rattle.gd_item.specs.declared.fault.ErrorCode.{ErrorCode}
 use Rattle.gd_item.specs.declared.id.ItemId.{ItemId}
@@ -40,22 +40,21 @@ use Rattle.od_outside.specs.Running.{IsKnown, Runs}
 use Rattle.od_outside.specs.Seeing.{AreLaws, Counts, NotFewer, Seen}
 use Rattle.od_outside.specs.Works.{KeepCause}
 use Rattle.od_outside.proofs.Glue.{runs-by, runs-none, runs-so, runs-then}
-use Rattle.od_pages.specs.Pulls.{IsLastPage, IsPull, IsTokenNow, after_answer}
+use Rattle.od_pages.specs.Pulls.{IsPull, IsTokenNow, after_answer}
 use Rattle.od_pages.proofs.Pulling.{pages-never-bad, pages-sound, pages-token, pull-answered, pull-begins, pull-goes-on}
-use Rattle.od_remote.specs.Counting.{Reading, RoseBy}
-use Rattle.od_run.specs.Acting.{LegalFrom}
-use Rattle.od_run.specs.Knowing.{Feed, Known, learned, link_token, nothing_there, pulled_by, pulled_to, token_after}
-use Rattle.od_run.specs.Worlds.{World, Event, now}
+use Rattle.od_remote.specs.Counting.{AreSame, AskCounts, Reading, RoseBy}
+use Rattle.od_run.specs.Knowing.{Feed, Known, learned, link_token, nothing_there, pulled_to}
+use Rattle.od_run.specs.Worlds.{World, Event, now, steps_in}
 use Rattle.od_run.proofs.Legal.{learned-append, now-append}
-use Rattle.od_pull.specs.Parts.{AsksNext, BeganBy, HasAnswer, HasBegunAnew, HasEnded, HasImageThen, IsAnswer, IsQuiet, IsTaken, IsUnderway, StopFact, StoppedBy, TookAll, Took, Underway, image_then}
-use Rattle.od_pull.specs.Pulls.{BaseBy, BeginsPull, EmptiesImage, IsPulledView, Keeps, PullCause, PulledBy, StopCause, is_to_send, told_to_send}
+use Rattle.od_pull.specs.Parts.{AsksNext, HasAnswer, HasBegunAnew, HasEnded, HasImageThen, IsAnswer, IsQuiet, IsTaken, IsUnderway, IsViewNow, KeepsView, StopFact, StoppedBy, Took, Underway, ViewFact, ViewsBy, ViewsNow, image_then}
+use Rattle.od_pull.specs.Pulls.{BaseBy, BeginsPull, CameBad, EmptiesImage, IsPulledView, Keeps, PullCause, PulledBy, StopCause, is_to_send, told_to_send}
 use Rattle.od_pull.specs.Stops.{keeper_stop, page_stop}
 use Rattle.od_pull.specs.declared.stop.PullStop.{PullStop}
 use Rattle.od_pull.specs.declared.stop.PullStop.TheVariants as stop
-use Rattle.od_pull.proofs.Quiet.{empties-quiet, empties-then, told-first}
+use Rattle.od_pull.proofs.Quiet.{drive-now, empties-quiet, empties-then, told-first}
 
 -- ---- what stays
-keeps-then : (k mid next : Known) → Keeps k mid → Keeps mid next → Keeps k next
+pub keeps-then : (k mid next : Known) → Keeps k mid → Keeps mid next → Keeps k next
 keeps-then k mid next first second = record { here = second.here ∙ first.here; image = by first.image second.image }
   where
     by : (mid.image ≡ k.image) ⊎ (mid.image ≡ empty_image) → (next.image ≡ mid.image) ⊎ (next.image ≡ empty_image) → (next.image ≡ k.image) ⊎ (next.image ≡ empty_image)
@@ -87,11 +86,13 @@ answer-on mirror said w k more has pull =
     (pull-goes-on has.drive mirror (after_answer mirror said) (Ask Own (Delta mirror.token) true true) (has.pull pull) (refl, has.size, has.least, has.most, ap (after_answer mirror) has.reply_is))
 
 page-ended : (mirror : Pulled) (page : Page) (w : World) (k : Known) (more : List Event) → IsAnswer mirror (reply.Page page) w k more → taken_of page.link ≡ Last → IsPull w.drive mirror
-    → HasEnded (after_page mirror page) (learned w k more)
+    → HasEnded (after_page mirror page) w (learned w k more)
 page-ended mirror page w k more has is pull =
     let end = last-link page.link is in
     record {
+      part = has.before;
       drive = has.drive;
+      grown = has.drive_is;
       drive_is = has.pulled ∙ ap (pulled_to has.drive) end.1;
       before = mirror;
       pull = has.pull pull;
@@ -225,10 +226,23 @@ underway-then first mirror next w k xs ys one two = record {
   image = empties-then w k xs ys one.image two.image;
 }
 
+ended-then : (mirror : Pulled) (w : World) (next : Known) (xs : List Event) → HasEnded mirror (now w xs) next → HasEnded mirror w next
+ended-then mirror w next xs ended = record {
+  part = steps_in xs ++ ended.part;
+  drive = ended.drive;
+  grown = ended.grown ∙ ap (λ log. log ++ ended.part) (drive-now w xs) ∙ append_assoc w.drive (steps_in xs) ended.part;
+  drive_is = ended.drive_is;
+  before = ended.before;
+  pull = ended.pull;
+  page = ended.page;
+  last = ended.last;
+  mirror_is = ended.mirror_is;
+}
+
 took-then : (first mirror next : Pulled) (taken : Taken) (w : World) (k : Known) (xs ys : List Event) → Underway first mirror w k xs → Took mirror next taken (now w xs) (learned w k xs) ys → Took first next taken w k (xs ++ ys)
 took-then first mirror next taken w k xs ys one two = record {
   underway = underway-then first mirror next w k xs ys one two.underway;
-  last = λ is pull. subst (HasEnded next) (sym (learned-append w k xs ys)) (two.last is (one.pull pull));
+  last = λ is pull. subst (HasEnded next w) (sym (learned-append w k xs ys)) (ended-then next w (learned (now w xs) (learned w k xs) ys) xs (two.last is (one.pull pull)));
 }
 
 taken-then : (mirror next : Pulled) (k mid then : Known) → IsUnderway mirror k mid → IsTaken next mid then → IsTaken next k then
@@ -257,7 +271,7 @@ pub endless : {S : Type 0} {o : Seen S} {a b : S} (n : ℕ) (first mirror : Pull
 endless n first mirror most runs = runs-so runs (λ cause. omega (arith, cause, most)) (λ k asks. asks) (λ k then asks underway. underway.keeps) (λ w k more asks underway. underway.image)
 
 -- it stops
-stopped-then : (of : PullStop) (k mid next : Known) → Keeps k mid → StoppedBy of mid next → StoppedBy of k next
+pub stopped-then : (of : PullStop) (k mid next : Known) → Keeps k mid → StoppedBy of mid next → StoppedBy of k next
 stopped-then stop.LinkFault k mid next keeps is = keeps-then k mid next keeps is
 stopped-then stop.Unserved k mid next keeps is = keeps-then k mid next keeps is
 stopped-then (stop.BadReply bytes) k mid next keeps is = is
@@ -277,27 +291,82 @@ fact-then stop.Endless first mirror w k xs ys one two = empties-then w k xs ys o
 fact-then stop.KeeperFault first mirror w k xs ys one two = tt
 fact-then stop.Memory first mirror w k xs ys one two = tt
 
-cause-then : (of : PullStop) (reads one : Reading) (before mid now : Counts) → NotFewer before mid → StopCause of one mid now → StopCause of reads before now
-cause-then stop.LinkFault reads one before mid now later cause = let more = later.link.faults in let rose = cause.faults in record { faults = omega (arith, rose, more); in_row = cause.in_row }
-cause-then stop.Unserved reads one before mid now later cause =
+came-bad : (bytes : List ℕ) (reads one : Reading) (now : AskCounts) → AreSame reads one → CameBad bytes one now → CameBad bytes reads now
+came-bad bytes reads one now same bad = record {
+  request = bad.request;
+  before = bad.before;
+  came = record { unread = λ said read. bad.came.unread said (same.still (kind_of bad.request) bytes said read); came = bad.came.came };
+}
+
+pub cause-then : (of : PullStop) (reads one : Reading) (before mid now : Counts) → AreSame reads one → NotFewer before mid → StopCause of one mid now → StopCause of reads before now
+cause-then stop.LinkFault reads one before mid now same later cause = let more = later.link.faults in let rose = cause.faults in record { faults = omega (arith, rose, more); in_row = cause.in_row }
+cause-then stop.Unserved reads one before mid now same later cause =
     let more = later.link.faults in
     let answers = later.link.answers in
     let rose = cause.faults in
     let answered = cause.answers in
     record { replies = cause.replies; some = cause.some; few = cause.few; answers = omega (arith, answered, answers); faults = omega (arith, rose, more) }
-cause-then (stop.BadReply bytes) reads one before mid now later cause = let more = later.link.answers in omega (arith, cause, more)
-cause-then (stop.Refused status code) reads one before mid now later cause = let more = later.link.answers in omega (arith, cause, more)
-cause-then (stop.BadPages id) reads one before mid now later cause = let more = later.link.answers in omega (arith, cause, more)
-cause-then stop.Endless reads one before mid now later cause = let more = later.link.answers in omega (arith, cause, more)
-cause-then stop.KeeperFault reads one before mid now later cause = let more = later.keeper in omega (arith, cause, more)
-cause-then stop.Memory reads one before mid now later cause = tt
+cause-then (stop.BadReply bytes) reads one before mid now same later cause = came-bad bytes reads one now.link same cause
+cause-then (stop.Refused status code) reads one before mid now same later cause = let more = later.link.answers in omega (arith, cause, more)
+cause-then (stop.BadPages id) reads one before mid now same later cause = let more = later.link.answers in omega (arith, cause, more)
+cause-then stop.Endless reads one before mid now same later cause = let more = later.link.answers in omega (arith, cause, more)
+cause-then stop.KeeperFault reads one before mid now same later cause = let more = later.keeper in omega (arith, cause, more)
+cause-then stop.Memory reads one before mid now same later cause = tt
 
 pub stopped-on : {S : Type 0} {o : Seen S} {a b c : S} → AreLaws o → (n : ℕ) (first mirror : Pulled) (of : PullStop)
     → Runs o (AsksNext first.token) (IsUnderway mirror) (Underway first mirror) (Answered n) a b → Runs o (AsksNext mirror.token) (StoppedBy of) (StopFact mirror of) (StopCause of) b c
     → Runs o (AsksNext first.token) (StoppedBy of) (StopFact first of) (StopCause of) a c
 stopped-on {S} {o} {a} {b} {c} laws n first mirror of before one =
-    runs-then {A = StoppedBy of} {F = StopFact first of} {C = StopCause of} laws before one (λ same later rose cause. cause-then of (o.reads a) (o.reads b) (o.counts a) (o.counts b) (o.counts c) later cause)
+    runs-then {A = StoppedBy of} {F = StopFact first of} {C = StopCause of} laws before one (λ same later rose cause. cause-then of (o.reads a) (o.reads b) (o.counts a) (o.counts b) (o.counts c) same later cause)
     (λ k mid asks underway. record { asks = underway.token_is }) (λ k mid next asks underway is. stopped-then of k mid next underway.keeps is) (λ w k xs ys asks underway fact. fact-then of first mirror w k xs ys underway fact)
+
+-- ---- what the pages make
+last-token : (items : List (ℕ × Item)) (l : PageLink) (text : List ℕ) → l ≡ link.Delta text → (after_link items l).token ≡ (after_link items l).last
+last-token items (link.Next other) text is = absurd (cc is)
+last-token items (link.Delta other) text is = refl
+
+viewed : (mirror : Pulled) (view : MirrorView) (w : World) (k next : Known) → IsView mirror view → IsTaken mirror k next → HasEnded mirror w next → IsViewNow view w next
+viewed mirror view w k next is taken ended =
+    let seen = subst (λ (m : Pulled). IsView m view) ended.mirror_is is in
+    let page_token : (after_page ended.before ended.page).token ≡ (after_page ended.before ended.page).last = last-token (with_records ended.before.items ended.page.items) ended.page.link ended.last.end ended.last.link_is in
+    record {
+      part = ended.part;
+      drive = ended.drive;
+      grown = ended.grown;
+      drive_is = ended.drive_is;
+      token_is = taken.underway.token_is ∙ ap (λ (m : Pulled). m.token) ended.mirror_is ∙ page_token ∙ sym seen.token;
+      sound = pages-sound ended.drive ended.page ended.before ended.pull ended.last view seen;
+      now_is = pages-token ended.drive ended.page ended.before ended.pull ended.last view seen;
+    }
+
+pub over-view : {S : Type 0} {o : Seen S} {a b : S} (first mirror : Pulled) (view : MirrorView) → IsView mirror view
+    → Runs o (AsksNext first.token) (IsTaken mirror) (Took first mirror Last) (PullCause {T = Unit {0}} (Ok tt)) a b
+    → Runs o (AsksNext first.token) (KeepsView) (ViewsNow first view) (PullCause (Ok view)) a b
+over-view first mirror view is runs =
+    runs-by runs (λ cause. cause) (λ k asks. asks)
+    (λ w k more known legal asks taken took. (
+      record { keeps = taken.underway.keeps; there = taken.there },
+      record { view_is = λ pull. viewed mirror view w k (learned w k more) is taken (took.last refl pull); image = took.underway.image },
+    ))
+
+over-bad : {S : Type 0} {o : Seen S} {a b : S} (first mirror : Pulled) (id : ItemId) → IsLeastBad (nodes (values_of mirror.items)) id.0
+    → Runs o (AsksNext first.token) (IsTaken mirror) (Took first mirror Last) (PullCause {T = Unit {0}} (Ok tt)) a b
+    → Runs o (AsksNext first.token) (StoppedBy (stop.BadPages id)) (StopFact first (stop.BadPages id)) (StopCause (stop.BadPages id)) a b
+over-bad first mirror id bad runs =
+    runs-by runs (λ cause. cause) (λ k asks. asks)
+    (λ w k more known legal asks taken took. (
+      taken.underway.keeps,
+      λ pull.
+          let ended = took.last refl pull in
+          pages-never-bad ended.drive ended.page ended.before ended.pull ended.last id.0 (subst (λ (m : Pulled). IsLeastBad (nodes (values_of m.items)) id.0) ended.mirror_is bad),
+    ))
+
+pub over-fails : {S : Type 0} {o : Seen S} {a b : S} (first mirror : Pulled) (fault : PullFault)
+    → ((n : ℕ) → IsErrOf {T = MirrorView} (Err fault) (page.BadPages (item_id n)) → IsLeastBad (nodes (values_of mirror.items)) n)
+    → Runs o (AsksNext first.token) (IsTaken mirror) (Took first mirror Last) (PullCause {T = Unit {0}} (Ok tt)) a b
+    → Runs o (AsksNext first.token) (StoppedBy (page_stop fault)) (StopFact first (page_stop fault)) (StopCause (page_stop fault)) a b
+over-fails first mirror (page.BadPages id) bad runs = over-bad first mirror id (bad id.0 refl) runs
+over-fails first mirror page.Memory bad runs = runs-by runs (λ cause. tt) (λ k asks. asks) (λ w k more known legal asks taken took. (taken.underway.keeps, tt))
 
 -- ---- the pull
 begins : (items : List Item) (token : Option (List ℕ)) (w : World) (k : Known) → IsKnown w k → BeginsPull items token k → IsPull w.drive (begun items token)
@@ -305,11 +374,11 @@ begins items token w k known is =
     pull-begins w.drive items token
     (subst (λ xs. ItemsAre xs w.drive token) (sym is.items_are) (subst (λ t. ItemsAre k.image.items w.drive t) (sym is.token_is) known.good.image.items))
 
-asks-begun : (items : List Item) (token : Option (List ℕ)) (k : Known) → BeginsPull items token k → AsksNext (begun items token).token k
+pub asks-begun : (items : List Item) (token : Option (List ℕ)) (k : Known) → BeginsPull items token k → AsksNext (begun items token).token k
 asks-begun items token k is = record { asks = is.asks }
 
 -- the items of a view whose token stands at the drive's number are the drive's
-items-now : (drive : List Step) (items : List Item) (text : List ℕ) → ItemsAre items drive (Some text) → IsTokenNow drive text → AreItemsOf (state_of drive).plain items (records_of (held_by drive))
+pub items-now : (drive : List Step) (items : List Item) (text : List ℕ) → ItemsAre items drive (Some text) → IsTokenNow drive text → AreItemsOf (state_of drive).plain items (records_of (held_by drive))
 items-now drive items text are at =
     let token : Token = record { epoch = (state_of drive).epoch; position = number_of drive; start = at.start } in
     let number = number-fits drive in
@@ -318,53 +387,24 @@ items-now drive items text are at =
     let pulled = subst (TokenIs items drive) read are in
     subst (λ held. AreItemsOf (state_of drive).plain items (records_of held)) (held_at-now drive) pulled.items_then
 
-last-token : (items : List (ℕ × Item)) (l : PageLink) (text : List ℕ) → l ≡ link.Delta text → (after_link items l).token ≡ (after_link items l).last
-last-token items (link.Next other) text is = absurd (cc is)
-last-token items (link.Delta other) text is = refl
+pub pulled-now : (view : MirrorView) (w : World) (next : Known) → IsViewNow view w next → next.there ≡ nothing_there → IsPulledView view next
+pulled-now view w next is there = record { drive = is.drive; drive_is = is.drive_is; token_is = is.token_is; items = items-now is.drive view.items view.token is.sound is.now_is; there = there }
 
-viewed : (mirror : Pulled) (view : MirrorView) (k next : Known) → IsView mirror view → IsTaken mirror k next → HasEnded mirror next → IsPulledView view next
-viewed mirror view k next is taken ended =
-    let seen = subst (λ (m : Pulled). IsView m view) ended.mirror_is is in
-    let sound = pages-sound ended.drive ended.page ended.before ended.pull ended.last view seen in
-    let token = pages-token ended.drive ended.page ended.before ended.pull ended.last view seen in
-    let page_token : (after_page ended.before ended.page).token ≡ (after_page ended.before ended.page).last = last-token (with_records ended.before.items ended.page.items) ended.page.link ended.last.end ended.last.link_is in
-    record {
-      drive = ended.drive;
-      drive_is = ended.drive_is;
-      token_is = taken.underway.token_is ∙ ap (λ (m : Pulled). m.token) ended.mirror_is ∙ page_token ∙ sym seen.token;
-      items = items-now ended.drive view.items view.token sound token;
-      there = taken.there;
-    }
+-- a view as it was pulled, with what its parts say of it
+pub record PulledNow (view : MirrorView) (w : World) (k : Known) (more : List Event) : Type 0 where
+  pub view_is : IsViewNow view w (learned w k more)
+  pub image : EmptiesImage w k more
 
-pub pulled-view : {S : Type 0} {o : Seen S} {a b : S} (items : List Item) (token : Option (List ℕ)) (mirror : Pulled) (view : MirrorView) → IsView mirror view
-    → Runs o (AsksNext (begun items token).token) (IsTaken mirror) (Took (begun items token) mirror Last) (PullCause {T = Unit {0}} (Ok tt)) a b
-    → Runs o (BeginsPull items token) (PulledBy (Ok view)) (BaseBy (Ok view)) (PullCause (Ok view)) a b
-pulled-view items token mirror view is runs =
+pub pull-views : {S : Type 0} {o : Seen S} {a b : S} (items : List Item) (token : Option (List ℕ)) (view : MirrorView)
+    → Runs o (AsksNext (begun items token).token) KeepsView (ViewsNow (begun items token) view) (PullCause (Ok view)) a b → Runs o (BeginsPull items token) KeepsView (PulledNow view) (PullCause (Ok view)) a b
+pull-views items token view runs =
     runs-by runs (λ cause. cause) (asks-begun items token)
-    (λ w k more known legal at taken took.
-    ((viewed mirror view k (learned w k more) is taken (took.last refl (begins items token w k known at)), taken.underway.keeps), took.underway.image))
+    (λ w k more known legal at keeps views. (keeps, record { view_is = views.view_is (begins items token w k known at); image = views.image }))
 
-pub pulled-bad : {S : Type 0} {o : Seen S} {a b : S} (items : List Item) (token : Option (List ℕ)) (mirror : Pulled) (id : ItemId) → IsLeastBad (nodes (values_of mirror.items)) id.0
-    → Runs o (AsksNext (begun items token).token) (IsTaken mirror) (Took (begun items token) mirror Last) (PullCause {T = Unit {0}} (Ok tt)) a b
-    → Runs o (BeginsPull items token) (PulledBy (Err (stop.BadPages id))) (BaseBy (Err (stop.BadPages id))) (PullCause {T = MirrorView} (Err (stop.BadPages id))) a b
-pulled-bad items token mirror id bad runs =
-    runs-by runs (λ cause. cause) (asks-begun items token)
-    (λ w k more known legal at taken took.
-    let ended = took.last refl (begins items token w k known at) in
-    let never = pages-never-bad ended.drive ended.page ended.before ended.pull ended.last id.0 (subst (λ (m : Pulled). IsLeastBad (nodes (values_of m.items)) id.0) ended.mirror_is bad) in
-    (never, tt))
-
-pub pulled-memory : {S : Type 0} {o : Seen S} {a b : S} (items : List Item) (token : Option (List ℕ)) (mirror : Pulled)
-    → Runs o (AsksNext (begun items token).token) (IsTaken mirror) (Took (begun items token) mirror Last) (PullCause {T = Unit {0}} (Ok tt)) a b
-    → Runs o (BeginsPull items token) (PulledBy (Err stop.Memory)) (BaseBy (Err stop.Memory)) (PullCause {T = MirrorView} (Err stop.Memory)) a b
-pulled-memory items token mirror runs = runs-by runs (λ cause. tt) (asks-begun items token) (λ w k more known legal at taken took. (taken.underway.keeps, tt))
-
-pub finish-fails : {S : Type 0} {o : Seen S} {a b : S} (items : List Item) (token : Option (List ℕ)) (mirror : Pulled) (fault : PullFault)
-    → ((n : ℕ) → IsErrOf {T = MirrorView} (Err fault) (page.BadPages (item_id n)) → IsLeastBad (nodes (values_of mirror.items)) n)
-    → Runs o (AsksNext (begun items token).token) (IsTaken mirror) (Took (begun items token) mirror Last) (PullCause {T = Unit {0}} (Ok tt)) a b
-    → Runs o (BeginsPull items token) (PulledBy (Err (page_stop fault))) (BaseBy (Err (page_stop fault))) (PullCause {T = MirrorView} (Err (page_stop fault))) a b
-finish-fails items token mirror (page.BadPages id) bad runs = pulled-bad items token mirror id (bad id.0 refl) runs
-finish-fails items token mirror page.Memory bad runs = pulled-memory items token mirror runs
+pub pull-says : {S : Type 0} {o : Seen S} {a b : S} (items : List Item) (token : Option (List ℕ)) (view : MirrorView)
+    → Runs o (BeginsPull items token) KeepsView (PulledNow view) (PullCause (Ok view)) a b → Runs o (BeginsPull items token) (PulledBy (Ok view)) (BaseBy (Ok view)) (PullCause (Ok view)) a b
+pull-says items token view runs =
+    runs-by runs (λ cause. cause) (λ k at. at) (λ w k more known legal at keeps pulled. ((pulled-now view w (learned w k more) pulled.view_is keeps.there, keeps.keeps), pulled.image))
 
 stops : (of : PullStop) (first : Pulled) (w : World) (k : Known) (more : List Event) → IsPull w.drive first → StoppedBy of k (learned w k more) → StopFact first of w k more
     → PulledBy (Err of) k (learned w k more) × BaseBy (Err of) w k more
@@ -382,3 +422,9 @@ pub pull-stops : {S : Type 0} {o : Seen S} {a b : S} (items : List Item) (token 
     → Runs o (BeginsPull items token) (PulledBy (Err of)) (BaseBy (Err of)) (PullCause {T = MirrorView} (Err of)) a b
 pull-stops items token of runs =
     runs-by runs (λ cause. cause) (asks-begun items token) (λ w k more known legal at is fact. stops of (begun items token) w k more (begins items token w k known at) is fact)
+
+pub pull-ends : {S : Type 0} {o : Seen S} {a b : S} (items : List Item) (token : Option (List ℕ)) (result : Result MirrorView PullStop)
+    → Runs o (AsksNext (begun items token).token) (ViewsBy result) (ViewFact (begun items token) result) (PullCause result) a b
+    → Runs o (BeginsPull items token) (PulledBy result) (BaseBy result) (PullCause result) a b
+pull-ends items token (Ok view) runs = pull-says items token view (pull-views items token view runs)
+pull-ends items token (Err of) runs = pull-stops items token of runs

@@ -1,3 +1,4 @@
+pub mod Digests
 pub mod Parts
 pub mod Pulls
 pub mod Stops

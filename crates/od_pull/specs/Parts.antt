@@ -1,6 +1,7 @@
 -- The parts of a pull: one answer, one part of a mirror, and all of them.
 use Rattle.std.specs.Prelude.{◌≡◌, ℕ, ◌≤◌, true, false, List, [], ◌∷◌, ◌++◌, Option, Some, None, Result, Ok, Err}
 use Rattle.gd_item.specs.Answers.{answer_of}
+use Rattle.gd_item.specs.Views.{ItemsAre}
 use Rattle.gd_item.specs.declared.reply.Page.{Page}
 use Rattle.gd_item.specs.declared.reply.Reply.{Reply}
 use Rattle.gd_item.specs.declared.reply.Resync.{Resync}
@@ -15,7 +16,8 @@ use Rattle.od_keeper.specs.declared.image.Image.{Image}
 use Rattle.od_mirror.specs.Pulled.{Pulled, after_page}
 use Rattle.od_mirror.specs.declared.mirror.Taken.{Taken}
 use Rattle.od_mirror.specs.declared.mirror.Taken.TheVariants.{Last}
-use Rattle.od_pages.specs.Pulls.{IsLastPage, IsPull}
+use Rattle.od_mirror.specs.declared.view.MirrorView.{MirrorView}
+use Rattle.od_pages.specs.Pulls.{IsLastPage, IsPull, IsTokenNow}
 use Rattle.od_run.specs.Knowing.{Known, learned, nothing_there, pulled_by, token_after}
 use Rattle.od_run.specs.Worlds.{World, Event, now}
 use Rattle.od_pull.specs.Pulls.{EmptiesImage, Keeps, is_to_send, told_to_send}
@@ -58,7 +60,9 @@ AnsweredBy token (Err stop) k next = StoppedBy stop k next
 
 -- the drive's log where it was asked, at the end of the events, and up to where the mirror stays its pull
 pub record IsAnswer (mirror : Pulled) (reply : Reply) (w : World) (k : Known) (more : List Event) : Type 0 where
+  pub before : List Step
   pub drive : List Step
+  pub drive_is : drive ≡ w.drive ++ before
   pub size : ℕ
   pub least : 1 ≤ size
   pub most : size ≤ 200
@@ -106,8 +110,10 @@ pub record Underway (before mirror : Pulled) (w : World) (k : Known) (more : Lis
   pub image : EmptiesImage w k more
 
 -- the last page was taken, of the drive as it was asked last
-pub record HasEnded (mirror : Pulled) (next : Known) : Type 0 where
+pub record HasEnded (mirror : Pulled) (w : World) (next : Known) : Type 0 where
+  pub part : List Step
   pub drive : List Step
+  pub grown : drive ≡ w.drive ++ part
   pub drive_is : next.feed.pulled ≡ Some drive
   pub before : Pulled
   pub pull : IsPull drive before
@@ -125,7 +131,7 @@ TakesBy {T} mirror (Err stop) k next = StoppedBy stop k next
 
 pub record Took (before mirror : Pulled) (taken : Taken) (w : World) (k : Known) (more : List Event) : Type 0 where
   pub underway : Underway before mirror w k more
-  pub last : taken ≡ Last → IsPull w.drive before → HasEnded mirror (learned w k more)
+  pub last : taken ≡ Last → IsPull w.drive before → HasEnded mirror w (learned w k more)
 
 abbrev pub TookOne : Pulled → Pulled → Result Taken PullStop → World → Known → List Event → Type 0
 TookOne before mirror (Ok taken) w k more = Took before mirror taken w k more
@@ -135,3 +141,30 @@ TookOne before mirror (Err stop) w k more = StopFact before stop w k more
 abbrev pub TookAll : Pulled → Pulled → Result (Unit {0}) PullStop → World → Known → List Event → Type 0
 TookAll before mirror (Ok done) w k more = Took before mirror Last w k more
 TookAll before mirror (Err stop) w k more = StopFact before stop w k more
+
+-- ---- and what they make
+-- the items are those of the drive as it was asked last
+pub record IsViewNow (view : MirrorView) (w : World) (next : Known) : Type 0 where
+  pub part : List Step
+  pub drive : List Step
+  pub grown : drive ≡ w.drive ++ part
+  pub drive_is : next.feed.pulled ≡ Some drive
+  pub token_is : next.feed.token ≡ Some view.token
+  pub sound : ItemsAre view.items drive (Some view.token)
+  pub now_is : IsTokenNow drive view.token
+
+pub record KeepsView (k next : Known) : Type 0 where
+  pub keeps : Keeps k next
+  pub there : next.there ≡ nothing_there
+
+abbrev pub ViewsBy : Result MirrorView PullStop → Known → Known → Type 0
+ViewsBy (Ok view) k next = KeepsView k next
+ViewsBy (Err stop) k next = StoppedBy stop k next
+
+pub record ViewsNow (mirror : Pulled) (view : MirrorView) (w : World) (k : Known) (more : List Event) : Type 0 where
+  pub view_is : IsPull w.drive mirror → IsViewNow view w (learned w k more)
+  pub image : EmptiesImage w k more
+
+abbrev pub ViewFact : Pulled → Result MirrorView PullStop → World → Known → List Event → Type 0
+ViewFact mirror (Ok view) w k more = ViewsNow mirror view w k more
+ViewFact mirror (Err stop) w k more = StopFact mirror stop w k more

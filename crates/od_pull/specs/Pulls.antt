@@ -9,6 +9,7 @@ use Rattle.gd_item.specs.declared.item.Item.{Item}
 use Rattle.gd_item.specs.declared.reply.Reply.{Reply}
 use Rattle.gd_item.specs.declared.reply.Reply.TheVariants as reply
 use Rattle.gd_item.specs.declared.reply.Resync.TheVariants.{ApplyDifferences, UploadDifferences}
+use Rattle.gd_item.specs.declared.request.Request.{Request}
 use Rattle.gd_item.specs.declared.request.Request.TheVariants.{Delta}
 use Rattle.gd_item.specs.declared.step.Step.{Step}
 use Rattle.gd_item.specs.declared.step.Step.TheVariants.{Ask}
@@ -16,7 +17,7 @@ use Rattle.gd_item.specs.declared.step.Who.TheVariants.{Own}
 use Rattle.od_keeper.specs.Images.{empty_image}
 use Rattle.od_mirror.specs.declared.view.MirrorView.{MirrorView}
 use Rattle.od_outside.specs.Seeing.{Counts}
-use Rattle.od_remote.specs.Counting.{AskCounts, Reading, RoseBy}
+use Rattle.od_remote.specs.Counting.{AskCounts, Misread, Reading, RoseBy}
 use Rattle.od_run.specs.Knowing.{Known, learned, nothing_there}
 use Rattle.od_run.specs.Worlds.{World, Event, Asked, Worked, Kept, happens}
 use Rattle.od_pull.specs.declared.stop.PullStop.{PullStop}
@@ -104,10 +105,16 @@ pub record AreUnserved (before now : AskCounts) : Type 0 where
   pub answers : RoseBy replies before.answers now.answers
   pub faults : RoseBy (3 - replies) before.faults now.faults
 
+-- bytes came that are no reply of a request's kind
+pub record CameBad (bytes : List ℕ) (reads : Reading) (now : AskCounts) : Type 0 where
+  pub request : Request
+  pub before : AskCounts
+  pub came : Misread reads request bytes before now
+
 abbrev pub StopCause : PullStop → Reading → Counts → Counts → Type 0
 StopCause stop.LinkFault reads before now = AreLost before.link now.link
 StopCause stop.Unserved reads before now = AreUnserved before.link now.link
-StopCause (stop.BadReply bytes) reads before now = RoseBy 1 before.link.answers now.link.answers
+StopCause (stop.BadReply bytes) reads before now = CameBad bytes reads now.link
 StopCause (stop.Refused status code) reads before now = RoseBy 1 before.link.answers now.link.answers
 StopCause (stop.BadPages id) reads before now = RoseBy 1 before.link.answers now.link.answers
 StopCause stop.Endless reads before now = RoseBy 4096 before.link.answers now.link.answers

@@ -5,6 +5,8 @@ use Rattle.od_mirror.specs.declared.mirror.PullFault.{PullFault}
 use Rattle.od_mirror.specs.declared.mirror.PullFault.TheVariants as page
 use Rattle.od_remote.specs.declared.again.ServeFault.{ServeFault}
 use Rattle.od_remote.specs.declared.again.ServeFault.TheVariants as serve
+use Rattle.od_remote.specs.declared.remote.AskFault.{AskFault}
+use Rattle.od_remote.specs.declared.remote.AskFault.TheVariants as ask
 use Rattle.od_pull.specs.declared.stop.PullStop.{PullStop}
 use Rattle.od_pull.specs.declared.stop.PullStop.TheVariants as stop
 
@@ -13,6 +15,11 @@ serve_stop serve.Failed = stop.LinkFault
 serve_stop serve.Unserved = stop.Unserved
 serve_stop (serve.Bad bytes) = stop.BadReply bytes
 serve_stop serve.Memory = stop.Memory
+
+abbrev pub ask_stop : AskFault → PullStop
+ask_stop ask.Failed = stop.LinkFault
+ask_stop (ask.Bad bytes) = stop.BadReply bytes
+ask_stop ask.Memory = stop.Memory
 
 abbrev pub page_stop : PullFault → PullStop
 page_stop (page.BadPages id) = stop.BadPages id

@@ -6,7 +6,7 @@ ghost use Rattle.od_mirror.specs.Climbs.{Rise};
 ghost use Rattle.od_mirror.specs.Pulled.{AllFit, nodes};
 ghost use Rattle.od_outside.specs.Running.{Runs};
 ghost use Rattle.od_outside.specs.Works.{KeepCause};
-ghost use Rattle.od_pull.specs.Parts.{AnsweredBy, AsksNext, BeganBy, HasBegunAnew, IsAnswerBy, IsQuiet, TakesBy, TookAll, TookOne};
+ghost use Rattle.od_pull.specs.Parts.{AnsweredBy, AsksNext, BeganBy, HasBegunAnew, IsAnswerBy, IsQuiet, TakesBy, TookAll, TookOne, ViewFact, ViewsBy};
 ghost use Rattle.od_pull.specs.Pulls.{BaseBy, BeginsPull, PullCause, PulledBy};
 
 use crate::stop::PullStop;
@@ -106,6 +106,21 @@ fn take_answers<O: Outside>(
     Err(PullStop::Endless)
 }
 
+/// Takes in all answers, and gives what the pages make.
+pub(crate) fn pull_over<O: Outside>(
+    alloc: Global,
+    outside: &mut O,
+    mut mirror: Mirror,
+) -> Result<MirrorView, PullStop>
+    ensures pulls { Runs O.seen (AsksNext mirror.token) (ViewsBy result) (ViewFact mirror result) (PullCause result) outside.old outside.new }
+    ensures fit { IfOk result (λ view. AllFit (nodes view.items)) }
+    ensures rise { IfOk result (λ view. Rise (nodes view.items)) }
+{
+    take_answers(alloc, outside, &mut mirror)?;
+    let view = mirror.finish()?;
+    Ok(view)
+}
+
 /// Pulls the drive over the kept items and their token: page by page, at most 4,096 replies, each asked for three times at
 /// most where it is lost or not served. Where the drive says that the client send what it has, the image is emptied first.
 pub fn pull<O: Outside>(
@@ -118,8 +133,5 @@ pub fn pull<O: Outside>(
     ensures fit { IfOk result (λ view. AllFit (nodes view.items)) }
     ensures rise { IfOk result (λ view. Rise (nodes view.items)) }
 {
-    let mut mirror = Mirror::start(alloc, items, token);
-    take_answers(alloc, outside, &mut mirror)?;
-    let view = mirror.finish()?;
-    Ok(view)
+    pull_over(alloc, outside, Mirror::start(alloc, items, token))
 }

@@ -4,7 +4,8 @@ use gd_item::{ErrorCode, ItemId};
 use gd_names::{Bytes, NoMemory};
 use od_keeper::KeeperFault;
 use od_mirror::PullFault;
-use od_remote::ServeFault;
+use od_remote::{AskFault, ServeFault};
+use std::alloc::AllocError;
 use thiserror::Error;
 
 /// Why a pull has no view of the drive.
@@ -36,6 +37,30 @@ impl From<NoMemory> for PullStop {
     ghost from_gives = { λ _ stop. stop ≡ Memory };
 
     fn from(_error: NoMemory) -> PullStop {
+        PullStop::Memory
+    }
+}
+
+impl From<AskFault> for PullStop {
+    ghost use Rattle.od_pull.specs.Stops.{ask_stop};
+
+    ghost from_gives = { λ fault stop. stop ≡ ask_stop fault };
+
+    fn from(fault: AskFault) -> PullStop {
+        match fault {
+            AskFault::Failed => PullStop::LinkFault,
+            AskFault::Bad(bytes) => PullStop::BadReply(bytes),
+            AskFault::Memory => PullStop::Memory,
+        }
+    }
+}
+
+impl From<AllocError> for PullStop {
+    ghost use Rattle.od_pull.specs.declared.stop.PullStop.TheVariants.{Memory};
+
+    ghost from_gives = { λ _ stop. stop ≡ Memory };
+
+    fn from(_error: AllocError) -> PullStop {
         PullStop::Memory
     }
 }

@@ -1,10 +1,10 @@
 use crate::tests::drive::OneFile;
-use crate::tests::feed::OneFolder;
-use gd_item::{Digest, ItemId};
+use crate::tests::feed::{OneBareFile, OneFolder};
+use gd_item::{Digest, ItemId, Kind};
 use gd_names::{List, NoMemory, Text};
 use od_keeper::{Change, Keeper, MemoryKeeper};
 use od_outside::Bundle;
-use od_pull::{PullStop, pull};
+use od_pull::{PullStop, pull, pull_with_digests};
 use od_tree::MemoryTree;
 use std::alloc::Global;
 use std::test::Fail;
@@ -63,5 +63,31 @@ fn an_unserved_pull_is_told(rt: HostRuntime) -> Result<(), Fail> {
         Err(stop) => assert_eq!(rt; stop, PullStop::Unserved),
         Ok(view) => panic!(rt; "{view:?}"),
     }
+    Ok(())
+}
+
+/// Where the drive gives a file without its digest, that of its bytes is learned (the digest of `abc` is the one of FIPS 180-4's
+/// example).
+#[test]
+fn a_digest_is_learned(rt: HostRuntime) -> Result<(), Fail> {
+    let alloc = rt.alloc();
+    let mut drive = OneBareFile { answers: 0 };
+    let mut tree = MemoryTree::new(alloc, List::new(alloc), List::new(alloc));
+    let mut keeper = MemoryKeeper::new(alloc, List::new(alloc));
+    let mut outside = Bundle {
+        remote: &mut drive,
+        tree: &mut tree,
+        keeper: &mut keeper,
+    };
+    let view = pull_with_digests(alloc, &mut outside, List::new(alloc), None)?;
+    let digest = Digest([
+        0xba, 0x78, 0x16, 0xbf, 0x8f, 0x01, 0xcf, 0xea, 0x41, 0x41, 0x40, 0xde, 0x5d, 0xae, 0x22,
+        0x23, 0xb0, 0x03, 0x61, 0xa3, 0x96, 0x17, 0x7a, 0x9c, 0xb4, 0x10, 0xff, 0x61, 0xf2, 0x00,
+        0x15, 0xad,
+    ]);
+    assert!(rt;
+        matches!(view.items.as_slice(), [_root, file] if file.kind == Kind::File { digest })
+    );
+    assert_eq!(rt; drive.answers, 4);
     Ok(())
 }
